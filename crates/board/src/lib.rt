@@ -1,0 +1,69 @@
+// The seam between planning and memory: what every board answers, which changes it takes, and which it refuses.
+ghost use mathlib.Core.Path.{_≡_};
+ghost use Rattle.board.specs.Meaning.{Meaning};
+ghost use Rattle.board.specs.Outcomes.{setNeed, setHeld, setCapacity};
+ghost use Rattle.board.specs.Boards.{Keeping, Good, Changed, Cleared};
+pub mod fault;
+use fault::Fault;
+
+pub const MOST_TASKS: usize = 64;
+pub const MOST_CORES: usize = 16;
+// The greatest need, and the most that a board may allow as a capacity.
+pub const MOST_SLOTS: u16 = 1000;
+
+// A board holds for each task and core a need and the slots held, and for each core a capacity.
+// Each call but `tasks`, `cores` and `greatest_pairs` asks that the board is good, and each change leaves it so.
+pub trait Board {
+    // What the board says, whatever memory it lies in.
+    ghost meaning: { Self → Meaning };
+
+    // What the memory must be like for the calls to work.
+    ghost ready: { Self → Type 0 };
+
+    // What the meaning does not show and no call changes: whose memory it is, and what lies past the board.
+    ghost kept: { Self → Self → Type 0 };
+
+    ghost keeping: { Keeping kept };
+
+    fn tasks(&self) -> usize
+        ensures { λ r. ⌜ r ≡ meaning (now (self .entry)) .tasks ⌝ };
+
+    fn cores(&self) -> usize
+        ensures { λ r. ⌜ r ≡ meaning (now (self .entry)) .cores ⌝ };
+
+    fn capacity(&self, core: usize) -> u16
+        requires { ⌜ Good meaning ready (now self) ⌝ }
+        ensures { λ r. ⌜ r ≡ meaning (now (self .entry)) .capacity core ⌝ };
+
+    fn need(&self, task: usize, core: usize) -> u16
+        requires { ⌜ Good meaning ready (now self) ⌝ }
+        ensures { λ r. ⌜ r ≡ meaning (now (self .entry)) .need task core ⌝ };
+
+    fn held(&self, task: usize, core: usize) -> u16
+        requires { ⌜ Good meaning ready (now self) ⌝ }
+        ensures { λ r. ⌜ r ≡ meaning (now (self .entry)) .held task core ⌝ };
+
+    fn greatest_pairs(&self) -> usize
+        ensures { λ r. ⌜ r ≡ meaning (now (self .entry)) .greatest-pairs ⌝ };
+
+    fn greatest_capacity(&self, core: usize) -> u16
+        requires { ⌜ Good meaning ready (now self) ⌝ }
+        ensures { λ r. ⌜ r ≡ meaning (now (self .entry)) .greatest-capacity core ⌝ };
+
+    fn set_need(&mut self, task: usize, core: usize, need: u16) -> Result<(), Fault>
+        requires { ⌜ Good meaning ready (now self) ⌝ }
+        ensures { λ r. ⌜ Changed meaning ready kept (now (self .entry)) (now (self .exit)) (setNeed (meaning (now (self .entry))) task core need) r ⌝ };
+
+    fn set_held(&mut self, task: usize, core: usize, held: u16) -> Result<(), Fault>
+        requires { ⌜ Good meaning ready (now self) ⌝ }
+        ensures { λ r. ⌜ Changed meaning ready kept (now (self .entry)) (now (self .exit)) (setHeld (meaning (now (self .entry))) task core held) r ⌝ };
+
+    fn set_capacity(&mut self, core: usize, capacity: u16) -> Result<(), Fault>
+        requires { ⌜ Good meaning ready (now self) ⌝ }
+        ensures { λ r. ⌜ Changed meaning ready kept (now (self .entry)) (now (self .exit)) (setCapacity (meaning (now (self .entry))) core capacity) r ⌝ };
+
+    // All needs, slots and capacities become 0.
+    fn clear(&mut self)
+        requires { ⌜ Good meaning ready (now self) ⌝ }
+        ensures { λ _. ⌜ Cleared meaning ready kept (now (self .entry)) (now (self .exit)) ⌝ };
+}

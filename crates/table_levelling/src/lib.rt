@@ -1,0 +1,1 @@
+// Levels a board of any build on a table of its own.

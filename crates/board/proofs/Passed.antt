@@ -49,7 +49,7 @@ need-passed m task core amount =
     (λ on. cond-both (ltb 1000 amount) _ _ P (λ _ no. absurd (never _ no))
     (λ e. cond-both (ltb amount (m .held task core)) _ _ P (λ _ no. absurd (never _ no))
     (λ f. cond-both (ltb 0 amount && eqb (m .need task core) 0 && leb (m .greatest-pairs) (pairCount m)) _ _ P (λ _ no. absurd (never _ no))
-    (λ h yes. record {
+    (λ h _. record {
       comes = refl;
       on-tasks = on-board-left (m .tasks) (m .cores) task core on;
       on-cores = on-board-right (m .tasks) (m .cores) task core on;
@@ -64,7 +64,7 @@ held-passed m task core amount =
     cond-both (leb (m .tasks) task || leb (m .cores) core) _ _ P (λ _ no. absurd (never _ no))
     (λ on. cond-both (ltb (m .need task core) amount) _ _ P (λ _ no. absurd (never _ no))
     (λ e. cond-both (ltb (m .capacity core) (givenAt (withHeld m task core amount) core)) _ _ P (λ _ no. absurd (never _ no))
-    (λ f yes. record {
+    (λ f _. record {
       comes = refl;
       on-tasks = on-board-left (m .tasks) (m .cores) task core on;
       on-cores = on-board-right (m .tasks) (m .cores) task core on;
@@ -77,7 +77,7 @@ capacity-passed m core amount =
     cond-both (leb (m .cores) core) _ _ P (λ _ no. absurd (never _ no))
     (λ on. cond-both (ltb (m .greatest-capacity core) amount) _ _ P (λ _ no. absurd (never _ no))
     (λ e. cond-both (ltb amount (givenAt m core)) _ _ P (λ _ no. absurd (never _ no))
-    (λ f yes. record { comes = refl; on-cores = grind (arith, tells); small = ltb-false _ _ e })))
+    (λ f _. record { comes = refl; on-cores = grind (arith, tells); small = ltb-false _ _ e })))
 
 module _ {S : Type 0} (meaning : S → Meaning) (ready : S → Type 0) (kept : S → S → Type 0) (keeping : Keeping kept) where
   -- the tests told a fault, and nothing was done

@@ -1,6 +1,6 @@
 // The seam between planning and memory: what every board answers, which changes it takes, and which it refuses.
 ghost use mathlib.Core.Path.{_≡_};
-ghost use Rattle.board.specs.Meaning.{Meaning, givenAt, freeAt, freeSlots, totalOf, wholeNeedOf, pairCount};
+ghost use Rattle.board.specs.Meaning.{Meaning, givenAt, freeAt, freeSlots, totalOf, wholeNeedOf, pairCount, sizesAllowed};
 ghost use Rattle.board.specs.Outcomes.{answered, setNeed, setHeld, setCapacity};
 ghost use Rattle.board.specs.Boards.{Keeping, Good, Changed, Cleared};
 pub mod fault;
@@ -11,6 +11,13 @@ pub const MOST_TASKS: usize = 64;
 pub const MOST_CORES: usize = 16;
 // The greatest need, and the most that a board may allow as a capacity.
 pub const MOST_SLOTS: u16 = 1000;
+
+// Whether a board of n tasks and m cores may be made.
+pub fn sizes_allowed(n: usize, m: usize) -> bool
+    ensures { λ r. ⌜ r ≡ sizesAllowed n m ⌝ }
+{
+    1 <= n && n <= MOST_TASKS && 1 <= m && m <= MOST_CORES
+}
 
 // A board holds for each task and core a need and the slots held, and for each core a capacity.
 // Each call but `tasks`, `cores` and `greatest_pairs` asks that the board is good, and each change leaves it so.

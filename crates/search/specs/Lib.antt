@@ -1,0 +1,3 @@
+pub mod Theory
+pub mod Gains
+pub mod Searches

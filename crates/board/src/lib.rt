@@ -1,6 +1,6 @@
 // The seam between planning and memory: what every board answers, which changes it takes, and which it refuses.
 ghost use mathlib.Core.Path.{_≡_};
-ghost use Rattle.board.specs.Meaning.{Meaning};
+ghost use Rattle.board.specs.Meaning.{Meaning, givenAt, freeAt, freeSlots, totalOf, wholeNeedOf, pairCount};
 ghost use Rattle.board.specs.Outcomes.{setNeed, setHeld, setCapacity};
 ghost use Rattle.board.specs.Boards.{Keeping, Good, Changed, Cleared};
 pub mod fault;
@@ -66,4 +66,76 @@ pub trait Board {
     fn clear(&mut self)
         requires { ⌜ Good meaning ready (now self) ⌝ }
         ensures { λ _. ⌜ Cleared meaning ready kept (now (self .entry)) (now (self .exit)) ⌝ };
+
+    // The slots that all tasks hold of a core. Every sum here is taken from the board: none is kept beside it.
+    fn given(&self, core: usize) -> u32
+        requires { ⌜ Good meaning ready (now self) ⌝ }
+        ensures { λ r. ⌜ r ≡ givenAt (meaning (now (self .entry))) core ⌝ }
+    {
+        let mut given = 0;
+        for task in 0..self.tasks() {
+            given += self.held(task, core) as u32;
+        }
+        given
+    }
+
+    // What a core could still give.
+    fn free(&self, core: usize) -> u32
+        requires { ⌜ Good meaning ready (now self) ⌝ }
+        ensures { λ r. ⌜ r ≡ freeAt (meaning (now (self .entry))) core ⌝ }
+    {
+        self.capacity(core) as u32 - self.given(core)
+    }
+
+    // What all cores could still give.
+    fn free_slots(&self) -> u32
+        requires { ⌜ Good meaning ready (now self) ⌝ }
+        ensures { λ r. ⌜ r ≡ freeSlots (meaning (now (self .entry))) ⌝ }
+    {
+        let mut free = 0;
+        for core in 0..self.cores() {
+            free += self.free(core);
+        }
+        free
+    }
+
+    // What a task holds over all cores.
+    fn total(&self, task: usize) -> u32
+        requires { ⌜ Good meaning ready (now self) ⌝ }
+        ensures { λ r. ⌜ r ≡ totalOf (meaning (now (self .entry))) task ⌝ }
+    {
+        let mut total = 0;
+        for core in 0..self.cores() {
+            total += self.held(task, core) as u32;
+        }
+        total
+    }
+
+    // What a task needs over all cores.
+    fn whole_need(&self, task: usize) -> u32
+        requires { ⌜ Good meaning ready (now self) ⌝ }
+        ensures { λ r. ⌜ r ≡ wholeNeedOf (meaning (now (self .entry))) task ⌝ }
+    {
+        let mut whole = 0;
+        for core in 0..self.cores() {
+            whole += self.need(task, core) as u32;
+        }
+        whole
+    }
+
+    // How many pairs of a task and a core have a need.
+    fn pair_count(&self) -> usize
+        requires { ⌜ Good meaning ready (now self) ⌝ }
+        ensures { λ r. ⌜ r ≡ pairCount (meaning (now (self .entry))) ⌝ }
+    {
+        let mut count = 0;
+        for task in 0..self.tasks() {
+            for core in 0..self.cores() {
+                if self.need(task, core) > 0 {
+                    count += 1;
+                }
+            }
+        }
+        count
+    }
 }

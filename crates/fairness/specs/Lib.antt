@@ -1,3 +1,4 @@
 pub mod Sums
 pub mod Plans
 pub mod Laws
+pub mod Even

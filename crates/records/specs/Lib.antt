@@ -1,0 +1,3 @@
+pub mod Wire
+pub mod Cuts
+pub mod Fields

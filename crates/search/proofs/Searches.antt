@@ -17,15 +17,9 @@ use Rattle.fairness.proofs.Sums.{sum-eq, sum-zero, sum-one}
 use Rattle.board.specs.Meaning.{Meaning, Sound, totalOf, givenAt}
 use Rattle.search.specs.declared.Search.{Search}
 use Rattle.search.specs.Searches.{taskAt, throughAt, isFound, coreAt, openerAt, isOpened, reached, empty, Sized, Trail, Covered, CoveredTo, SweptTo, Grown, Complete, Spread, Trying}
-use Rattle.fairness.specs.declared.Share.{Share}
-use Rattle.fairness.specs.Laws.{Comparison}
-use Rattle.search.specs.Gains.{ruled, shareOf, gainsBy, shouldGain, NoFreePair, SafeOn}
+use Rattle.search.specs.Gains.{shouldGain, NoneFree, SafeOn}
 use Rattle.search.proofs.Trails.{flag-more}
 use Rattle.search.proofs.Spreads.{swept-on}
-
--- the test by shares is the test on the board
-pub by-shares : (order : Comparison) (m : Meaning) (p q : ℕ) (a b : Share) (r : Bool) → a ≡ shareOf m p → b ≡ shareOf m q → r ≡ gainsBy order a b → shouldGain (ruled order m) m p q ≡ r
-by-shares order m p q a b r e f h = sym (h ∙ (ap (λ (x : Share). gainsBy order x b) e ∙ ap (λ (x : Share). gainsBy order (shareOf m p) x) f))
 
 -- nothing is set in a list of false
 none-set : (n k : ℕ) → getD (replicate n false) k false ≡ false
@@ -78,7 +72,7 @@ module _ (cmp : Compare) (m : Meaning) (p : ℕ) (so : Sound m) (pn : p < m .tas
     fails = below-more (λ x. shouldGain cmp m p (taskAt t x) ≡ false) h (λ x u. rw (sp .grown .same x (omega arith)) (y .fails x u)) (rw (sp .grown .same h l) fail);
   }
 
-  pub trying-all : (s : Search) (h : ℕ) → Trying cmp m p s h → s .count ≤ h → NoFreePair m → SafeOn cmp m p
+  pub trying-all : (s : Search) (h : ℕ) → Trying cmp m p s h → s .count ≤ h → NoneFree m → SafeOn cmp m p
   trying-all s h y all none =
       let t = y .complete .trail in
       let at : (i : ℕ) → i < m .tasks → isFound s i ≡ true → (x : ℕ) × (x < h) × (taskAt s x ≡ i) = λ i l f. let w = t .placed i l f in (w .0, omega (arith, w .1), w .2) in

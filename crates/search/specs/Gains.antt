@@ -33,14 +33,14 @@ abbrev pub shouldGain : Compare → Meaning → ℕ → ℕ → Bool
 shouldGain cmp m p q = ltb 0 (totalOf m q) && gains cmp p (totalOf m p) q (totalOf m q)
 
 -- the core has a free slot, and the task holds less than its need there
-pub record FreePair (m : Meaning) (t c : ℕ) : Type 0 where
+pub record FreeFor (m : Meaning) (t c : ℕ) : Type 0 where
   pub a-task : t < m .tasks
   pub a-core : c < m .cores
   pub wants : m .held t c < m .need t c
   pub free : givenAt m c < m .capacity c
 
-abbrev pub NoFreePair : Meaning → Type 0
-NoFreePair m = (t c : ℕ) → FreePair m t c → ⊥
+abbrev pub NoneFree : Meaning → Type 0
+NoneFree m = (t c : ℕ) → FreeFor m t c → ⊥
 
 -- no task that p could get a slot from, by whatever route, should lose one to it
 abbrev pub SafeOn : Compare → Meaning → ℕ → Type 0

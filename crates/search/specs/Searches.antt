@@ -8,7 +8,7 @@ use Rattle.std.specs.declared.option.Option.{Option}
 use Rattle.fairness.specs.Sums.{sumTo}
 use Rattle.search.specs.Theory.{Compare}
 use Rattle.board.specs.Meaning.{Meaning, mostTasks, mostCores}
-use Rattle.search.specs.Gains.{shouldGain, NoFreePair, SafeOn}
+use Rattle.search.specs.Gains.{shouldGain, NoneFree, SafeOn}
 use Rattle.search.specs.declared.Search.{Search}
 
 -- the task at place x, the opening that found it, and whether task k is found
@@ -166,4 +166,4 @@ pub record Gain (cmp : Compare) (m : Meaning) (p : ℕ) (s : Search) (x : ℕ) :
 
 -- what a search from task p comes to: nothing to gain once no slot is free, or the place of the task that should lose a slot
 abbrev pub Sought : Compare → Meaning → ℕ → Search → Option ℕ → Type 0
-Sought cmp m p s r = BySome r (NoFreePair m → SafeOn cmp m p) (Gain cmp m p s)
+Sought cmp m p s r = BySome r (NoneFree m → SafeOn cmp m p) (Gain cmp m p s)

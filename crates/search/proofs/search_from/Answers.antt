@@ -6,7 +6,8 @@ use Rattle.search.specs.declared.Search.{Search}
 use mathlib.Core.Bool.{true, false}
 use Rattle.search.specs.Searches.{Trying, reached, taskAt}
 use Rattle.search.specs.Gains.{ruled}
-use Rattle.search.proofs.Searches.{by-shares, trying-start, trying-more, trying-all}
+use Rattle.search.proofs.Searches.{trying-start, trying-more, trying-all}
+use Rattle.search.proofs.Shares.{by-shares}
 use Rattle.search.proofs.search_from.Needs as need
 
 pub loop-head-holds : need.loop-head-holds

@@ -1,0 +1,3 @@
+mod Theory
+pub mod Shifts
+pub mod Along

@@ -1,0 +1,42 @@
+// Routes from a gaining task to a losing one, and the exchange of one slot along them.
+ghost use mathlib.Core.Path.{_≡_};
+ghost use Prim.Native.Nat.{ℕ, _+_, _<_, _≤_};
+ghost use Rattle.board.specs.Meaning.{Meaning};
+ghost use Rattle.board.specs.Boards.{Good, Went};
+ghost use Rattle.routes.specs.Routes.{taskOn, Route, MayShift, Shifted, Exchanged};
+use board::Board;
+
+// A task, and the core of which it takes a slot from the next task of a route.
+#[derive(Clone, Copy)]
+pub struct Step {
+    pub task: usize,
+    pub core: usize,
+}
+
+// A slot of the core goes from the giver to the taker: it is given up first, so that the core is never over its capacity.
+fn shift<B: Board>(board: &mut B, taker: usize, core: usize, giver: usize)
+    requires good { ⌜ Good meaning ready (now board) ⌝ }
+    requires may { ⌜ MayShift (meaning (now board)) taker core giver ⌝ }
+    ensures went { λ _. ⌜ Went meaning ready kept (now (board .entry)) (now (board .exit)) ⌝ }
+    ensures shifted { λ _. ⌜ Shifted (meaning (now (board .entry))) (meaning (now (board .exit))) taker core giver ⌝ }
+{
+    let less = board.held(giver, core) - 1;
+    let more = board.held(taker, core) + 1;
+    let _ = board.set_held(giver, core, less);
+    let _ = board.set_held(taker, core, more);
+}
+
+// One slot goes from the loser along the route to its first task.
+pub fn exchange<B: Board>(board: &mut B, route: &[Step], loser: usize)
+    requires good { ⌜ Good meaning ready (now board) ⌝ }
+    requires route { ⌜ Route (meaning (now board)) (now route) loser ⌝ }
+    ensures went { λ _. ⌜ Went meaning ready kept (now (board .entry)) (now (board .exit)) ⌝ }
+    ensures exchanged { λ _. ⌜ Exchanged (meaning (now (board .entry))) (meaning (now (board .exit))) (taskOn (now (route .entry)) loser 0) loser ⌝ }
+{
+    let mut giver = loser;
+    for i in (0..route.len()).rev() {
+        let step = route[i];
+        shift(board, step.task, step.core, giver);
+        giver = step.task;
+    }
+}

@@ -1,0 +1,5 @@
+pub mod Theory
+pub mod Gains
+pub mod Searches
+pub mod Chains
+pub mod Founds

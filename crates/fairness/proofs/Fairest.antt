@@ -15,18 +15,12 @@ use Rattle.fairness.specs.declared.Rank.the-variants.{Below}
 use Rattle.fairness.proofs.Sums.{someTo, sum-at}
 use Rattle.fairness.proofs.Settled.{step, step-falls, gains-lt, height, settled-within-one}
 use Rattle.fairness.specs.Moves.{same, slotAt}
-use Rattle.fairness.proofs.Moves.{take, taken-total, taken-feasible}
+use Rattle.fairness.proofs.Moves.{take, taken-total, taken-feasible, same-self, same-other}
 use Rattle.fairness.proofs.Reach.{layer, Fresh, layer-own, layer-next, stable, first, apart, Kept, walk}
 use Rattle.fairness.proofs.Gains.{gain-fairer, free-fairer}
 
-same-self : (x : ℕ) → same x x ≡ 1
-same-self x = cond-true {A = ℕ} (eqb x x) 1 0 (eq-eqb x x refl)
-
-same-other : (x y : ℕ) → (x ≡ y → ⊥) → same x y ≡ 0
-same-other x y ne = cond-false {A = ℕ} (eqb x y) 1 0 (ne-eqb x y ne)
-
 -- a task gains nothing from itself
-no-self : (cmp : Compare) → Laws cmp → (p x : ℕ) → 0 < x → cmp p (x - 1) p (suc (x - 1)) ≡ Below → gains cmp p x p x ≡ true → ⊥
+pub no-self : (cmp : Compare) → Laws cmp → (p x : ℕ) → 0 < x → cmp p (x - 1) p (suc (x - 1)) ≡ Below → gains cmp p x p x ≡ true → ⊥
 no-self cmp laws p x pos rise g =
     let e : suc (x - 1) ≡ x = omega arith in
     let up : cmp p (x - 1) p x ≡ Below = rw e at rise in

@@ -16,3 +16,7 @@ pub mod Gains
 pub mod Fairest
 pub mod Rules
 pub mod Boards
+pub mod Routes
+pub mod Ways
+pub mod Levels
+pub mod Theorems

@@ -73,7 +73,7 @@ module _ (n m : ℕ) (d a : ℕ → ℕ → ℕ) (p : ℕ) where
     | inr f ↦ absurd (both-ways _ (f s (omega arith)) h)
   ]
 
-  parent : (L q : ℕ) → Fresh n m d a p (suc L) q → (i : ℕ) × (j : ℕ) × (i < n) × (j < m) × Fresh n m d a p L i × (a i j < d i j) × (0 < a q j)
+  pub parent : (L q : ℕ) → Fresh n m d a p (suc L) q → (i : ℕ) × (j : ℕ) × (i < n) × (j < m) × Fresh n m d a p L i × (a i j < d i j) × (0 < a q j)
   unfolding layer
   parent L q f = elim (or-cases (layer n m d a p L q) _ (f .now)) [
     | inl h ↦ absurd (both-ways _ (f .before L (omega arith)) h)

@@ -2,3 +2,4 @@ pub mod Bounds
 pub mod Changes
 pub mod Passed
 pub mod New
+pub mod Going

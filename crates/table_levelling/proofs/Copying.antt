@@ -11,7 +11,6 @@ use Rattle.board.specs.Meaning.{Meaning, Sound, planned, givenAt, pairCount, ne
 use Rattle.board.specs.Outcomes.{done, after, setNeed, setHeld, setCapacity}
 use Rattle.board.proofs.Bounds.{needed-le, needed-none}
 use Rattle.board.proofs.Changes.{done-capacity, done-need, done-held, done-fewer, given-put}
-use Rattle.board.specs.Boards.{Keeping, Good, Went}
 use Rattle.table_levelling.specs.Copies.{tasksTo, rowTo, capacitiesTo, lesser, ordered, Roomy, Holds, Above}
 use Rattle.std.proofs.shelf.Ways.{tells}
 use Rattle.table_levelling.proofs.Mixtures.{capacities-start, capacities-put, capacities-all, row-start, row-put, row-here, row-le, tasks-start, tasks-row, tasks-all}
@@ -42,14 +41,6 @@ held-done m most task core tn cm within room below =
     let under : givenAt (withHeld m task core v) core ≤ given (m .tasks) most core
         = sum-le (m .tasks) (λ t. put (m .held) task core v t core) (λ t. most t core) (λ t _. grind (arith, below t core)) in
     done-held m task core v tn cm within (omega (arith, under, given-put m task core v tn))
-
--- nothing was done
-pub went-nowhere : {S : Type 0} (meaning : S → Meaning) (ready : S → Type 0) (kept : S → S → Type 0) → Keeping kept → (a : S) → Good meaning ready a → Went meaning ready kept a a
-went-nowhere meaning ready kept keeping a good = record { good = good; keeps = keeping .same a }
-
--- one call more
-pub went-on : {S : Type 0} (meaning : S → Meaning) (ready : S → Type 0) (kept : S → S → Type 0) → Keeping kept → (a b c : S) → Went meaning ready kept a b → Good meaning ready c → kept b c → Went meaning ready kept a c
-went-on meaning ready kept keeping a b c went good keeps = record { good = good; keeps = keeping .onward a b c (went .keeps) keeps }
 
 capacity-beyond : (m : Meaning) → Sound m → (core : ℕ) → m .cores ≤ core → m .capacity core ≡ 0
 capacity-beyond m so core out = omega (arith, so .capped core, so .no-core core out)

@@ -1,6 +1,7 @@
 use Rattle.board.specs.Meaning.{Meaning}
 use Rattle.table_levelling.specs.Copies.{lesser}
-use Rattle.table_levelling.proofs.Copying.{went-on, holds-on, above-lesser, planned-on}
+use Rattle.board.proofs.Going.{went-on}
+use Rattle.table_levelling.proofs.Copying.{holds-on, above-lesser, planned-on}
 use Rattle.table_levelling.proofs.bring_slots.Needs as need
 
 pub raise-slots-requires : need.raise-slots-requires

@@ -2,7 +2,8 @@ use Prim.Native.Nat.{_<_}
 use mathlib.Core.Path.{_≡_, sym, _∙_}
 use native.Mathlib.Omega.{arith}
 use Rattle.board.specs.Meaning.{Meaning}
-use Rattle.table_levelling.proofs.Copying.{went-nowhere, went-on, capacities-none, capacities-more, capacities-whole}
+use Rattle.board.proofs.Going.{went-nowhere, went-on}
+use Rattle.table_levelling.proofs.Copying.{capacities-none, capacities-more, capacities-whole}
 use Rattle.table_levelling.proofs.copy_capacities.Needs as need
 
 pub loop-core-holds : need.loop-core-holds

@@ -3,7 +3,8 @@ use mathlib.Core.Path.{_≡_, sym, ap, _∙_}
 use native.Mathlib.Omega.{arith}
 use Rattle.board.specs.Meaning.{Meaning}
 use Rattle.table_levelling.specs.Copies.{tasksTo}
-use Rattle.table_levelling.proofs.Copying.{went-nowhere, went-on, needs-start, needs-whole, room-on, ordered-again, ordered-on}
+use Rattle.board.proofs.Going.{went-nowhere, went-on}
+use Rattle.table_levelling.proofs.Copying.{needs-start, needs-whole, room-on, ordered-again, ordered-on}
 use Rattle.table_levelling.proofs.copy_needs.Needs as need
 
 pub loop-task-holds : need.loop-task-holds

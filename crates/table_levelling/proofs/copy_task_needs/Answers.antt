@@ -2,7 +2,8 @@ use Prim.Native.Nat.{_<_}
 use mathlib.Core.Path.{_≡_, sym, _∙_}
 use native.Mathlib.Omega.{arith}
 use Rattle.board.specs.Meaning.{Meaning}
-use Rattle.table_levelling.proofs.Copying.{went-nowhere, went-on, needs-none, needs-more, needs-row}
+use Rattle.board.proofs.Going.{went-nowhere, went-on}
+use Rattle.table_levelling.proofs.Copying.{needs-none, needs-more, needs-row}
 use Rattle.table_levelling.proofs.copy_task_needs.Needs as need
 
 pub loop-core-holds : need.loop-core-holds

@@ -3,7 +3,8 @@ use mathlib.Core.Path.{_≡_, sym, ap, _∙_}
 use native.Mathlib.Omega.{arith}
 use Rattle.board.specs.Meaning.{Meaning}
 use Rattle.table_levelling.specs.Copies.{lesser}
-use Rattle.table_levelling.proofs.Copying.{went-nowhere, went-on, tasks-none, lower-tasks-more, lower-whole}
+use Rattle.board.proofs.Going.{went-nowhere, went-on}
+use Rattle.table_levelling.proofs.Copying.{tasks-none, lower-tasks-more, lower-whole}
 use Rattle.table_levelling.proofs.lower_slots.Needs as need
 
 pub loop-task-holds : need.loop-task-holds

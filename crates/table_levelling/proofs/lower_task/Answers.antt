@@ -3,7 +3,8 @@ use mathlib.Core.Path.{_≡_, sym, ap, _∙_}
 use native.Mathlib.Omega.{arith}
 use Rattle.board.specs.Meaning.{Meaning}
 use Rattle.table_levelling.specs.Copies.{lesser}
-use Rattle.table_levelling.proofs.Copying.{went-nowhere, went-on, row-none, lower-more, row-whole}
+use Rattle.board.proofs.Going.{went-nowhere, went-on}
+use Rattle.table_levelling.proofs.Copying.{row-none, lower-more, row-whole}
 use Rattle.table_levelling.proofs.lower_task.Needs as need
 
 pub loop-core-holds : need.loop-core-holds

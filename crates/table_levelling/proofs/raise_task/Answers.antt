@@ -2,7 +2,8 @@ use Prim.Native.Nat.{_<_}
 use mathlib.Core.Path.{_≡_, sym, _∙_}
 use native.Mathlib.Omega.{arith}
 use Rattle.board.specs.Meaning.{Meaning}
-use Rattle.table_levelling.proofs.Copying.{went-nowhere, went-on, row-none, raise-more, row-whole}
+use Rattle.board.proofs.Going.{went-nowhere, went-on}
+use Rattle.table_levelling.proofs.Copying.{row-none, raise-more, row-whole}
 use Rattle.table_levelling.proofs.raise_task.Needs as need
 
 pub loop-core-holds : need.loop-core-holds

@@ -119,10 +119,10 @@ not-below : (a b : ℕ) → ltb a b ≡ false → b ≤ a
 not-below a b h = grind (arith, tells)
 
 -- a test of a task and a core that lets them pass
-on-board-left : (n m task core : ℕ) → (leb n task || leb m core) ≡ false → task < n
+pub on-board-left : (n m task core : ℕ) → (leb n task || leb m core) ≡ false → task < n
 on-board-left n m task core h = grind (arith, tells)
 
-on-board-right : (n m task core : ℕ) → (leb n task || leb m core) ≡ false → core < m
+pub on-board-right : (n m task core : ℕ) → (leb n task || leb m core) ≡ false → core < m
 on-board-right n m task core h = grind (arith, tells)
 
 pub held-sound : (m : Meaning) (task core amount : ℕ) → Sound m → amount ≤ m .need task core → givenAt (withHeld m task core amount) core ≤ m .capacity core

@@ -1,2 +1,4 @@
 pub mod Bounds
 pub mod Changes
+pub mod Passed
+pub mod New

@@ -1,15 +1,23 @@
 // The seam between planning and memory: what every board answers, which changes it takes, and which it refuses.
 ghost use mathlib.Core.Path.{_≡_};
-ghost use Rattle.board.specs.Meaning.{Meaning, givenAt, freeAt, freeSlots, totalOf, wholeNeedOf, pairCount};
-ghost use Rattle.board.specs.Outcomes.{setNeed, setHeld, setCapacity};
+ghost use Rattle.board.specs.Meaning.{Meaning, givenAt, freeAt, freeSlots, totalOf, wholeNeedOf, pairCount, sizesAllowed};
+ghost use Rattle.board.specs.Outcomes.{answered, setNeed, setHeld, setCapacity};
 ghost use Rattle.board.specs.Boards.{Keeping, Good, Changed, Cleared};
 pub mod fault;
 use fault::Fault;
+use fault::Refusal;
 
 pub const MOST_TASKS: usize = 64;
 pub const MOST_CORES: usize = 16;
 // The greatest need, and the most that a board may allow as a capacity.
 pub const MOST_SLOTS: u16 = 1000;
+
+// Whether a board of n tasks and m cores may be made.
+pub fn sizes_allowed(n: usize, m: usize) -> bool
+    ensures { λ r. ⌜ r ≡ sizesAllowed n m ⌝ }
+{
+    1 <= n && n <= MOST_TASKS && 1 <= m && m <= MOST_CORES
+}
 
 // A board holds for each task and core a need and the slots held, and for each core a capacity.
 // Each call but `tasks`, `cores` and `greatest_pairs` asks that the board is good, and each change leaves it so.
@@ -137,5 +145,60 @@ pub trait Board {
             }
         }
         count
+    }
+
+    // What `set_need` would answer; the board stays as it is. The tests and their order are the same for every board.
+    fn test_need(&self, task: usize, core: usize, need: u16) -> Result<(), Fault>
+        requires { ⌜ Good meaning ready (now self) ⌝ }
+        ensures { λ r. ⌜ r ≡ answered (setNeed (meaning (now (self .entry))) task core need) ⌝ }
+    {
+        if task >= self.tasks() || core >= self.cores() {
+            return Err(Refusal::NoSuchTaskOrCore.at(0));
+        }
+        if need > MOST_SLOTS {
+            return Err(Refusal::AmountTooLarge.at(0));
+        }
+        if need < self.held(task, core) {
+            return Err(Refusal::SlotsOverNeed.at(0));
+        }
+        if need > 0 && self.need(task, core) == 0 && self.pair_count() >= self.greatest_pairs() {
+            return Err(Refusal::NoPairLeft.at(0));
+        }
+        Ok(())
+    }
+
+    // What `set_held` would answer.
+    fn test_held(&self, task: usize, core: usize, held: u16) -> Result<(), Fault>
+        requires { ⌜ Good meaning ready (now self) ⌝ }
+        ensures { λ r. ⌜ r ≡ answered (setHeld (meaning (now (self .entry))) task core held) ⌝ }
+    {
+        if task >= self.tasks() || core >= self.cores() {
+            return Err(Refusal::NoSuchTaskOrCore.at(0));
+        }
+        if held > self.need(task, core) {
+            return Err(Refusal::SlotsOverNeed.at(0));
+        }
+        let others = self.given(core) - self.held(task, core) as u32;
+        if others + held as u32 > self.capacity(core) as u32 {
+            return Err(Refusal::CoreOverCapacity.at(0));
+        }
+        Ok(())
+    }
+
+    // What `set_capacity` would answer.
+    fn test_capacity(&self, core: usize, capacity: u16) -> Result<(), Fault>
+        requires { ⌜ Good meaning ready (now self) ⌝ }
+        ensures { λ r. ⌜ r ≡ answered (setCapacity (meaning (now (self .entry))) core capacity) ⌝ }
+    {
+        if core >= self.cores() {
+            return Err(Refusal::NoSuchTaskOrCore.at(0));
+        }
+        if capacity > self.greatest_capacity(core) {
+            return Err(Refusal::AmountTooLarge.at(0));
+        }
+        if (capacity as u32) < self.given(core) {
+            return Err(Refusal::CoreOverCapacity.at(0));
+        }
+        Ok(())
     }
 }

@@ -19,6 +19,16 @@ atMost Below = true
 atMost Level = true
 atMost Above = false
 
+abbrev pub isBelow : Rank → Bool
+isBelow Below = true
+isBelow Level = false
+isBelow Above = false
+
+abbrev pub isLevel : Rank → Bool
+isLevel Below = false
+isLevel Level = true
+isLevel Above = false
+
 pub record Lawful (compare : Comparison) : Type 0 where
   pub mirrored : (a b : Share) → compare b a ≡ mirror (compare a b)
   pub transitive : (a b c : Share) → atMost (compare a b) ≡ true → atMost (compare b c) ≡ true → atMost (compare a c) ≡ true

@@ -1,4 +1,9 @@
-pub mod Sums
-pub mod Plans
+pub mod Theorems
+pub mod Settled
+pub mod Routes
+pub mod Moves
+pub mod Levels
 pub mod Laws
 pub mod Even
+pub mod Plans
+pub mod Sums

@@ -1,14 +1,18 @@
--- How an order and a plan go from one board to another, pair by pair: task by task, and core by core within a task.
+-- How an order and a plan go from one board to another: task by task, and core by core within a task.
 use mathlib.Core.Path.{_≡_}
-use mathlib.Core.Bool.{cond, _&&_, _||_}
+use mathlib.Core.Bool.{cond, _&&_}
 use Prim.Native.Nat.{ℕ, _*_, min, _≤_, _<_}
 use lib.Dec.{ltb, eqb}
 use Rattle.fairness.specs.Plans.{Plan, given}
 use Rattle.board.specs.Meaning.{Meaning, mostSlots, planned}
 
--- the pairs before (task, core) are as in the new plan, and the others as in the old one
-abbrev pub mixed : Plan → Plan → ℕ → ℕ → Plan
-mixed new old task core t c = cond (ltb t task || (eqb t task && ltb c core)) (new t c) (old t c)
+-- the tasks below the bound are as in the new plan, and the others as in the old one
+abbrev pub tasksTo : Plan → Plan → ℕ → Plan
+tasksTo new old bound task core = cond (ltb task bound) (new task core) (old task core)
+
+-- the cores below the bound are, for this one task, as in the new plan, and all else as in the old one
+abbrev pub rowTo : Plan → Plan → ℕ → ℕ → Plan
+rowTo new old task bound t c = cond (eqb t task && ltb c bound) (new t c) (old t c)
 
 -- pair by pair the lesser number
 abbrev pub lesser : Plan → Plan → Plan
@@ -43,3 +47,7 @@ pub record Holds (from to : Meaning) : Type 0 where
   pub cores : to .cores ≡ from .cores
   pub within : (task core : ℕ) → from .held task core ≤ to .need task core
   pub room : (core : ℕ) → core < to .cores → given (to .tasks) (from .held) core ≤ to .capacity core
+
+-- from holds no less than to at any pair
+abbrev pub Above : Meaning → Meaning → Type 0
+Above from to = (task core : ℕ) → to .held task core ≤ from .held task core

@@ -8,7 +8,8 @@ use lib.Dec.{eqb, ltb}
 use lib.ListN.{length, getD}
 use Rattle.std.proofs.shelf.Tests.{ne-eqb, lt-ltb, le-ltb, cond-true, cond-false}
 use Rattle.fairness.specs.Sums.{sumTo}
-use Rattle.routes.specs.Theory.{slotAt, Moved, Route}
+use Rattle.fairness.specs.Moves.{slotAt, Moved}
+use Rattle.fairness.specs.Routes.{Route}
 use Rattle.board.specs.Meaning.{Meaning, SameOrder, planned}
 use Rattle.routes.specs.declared.Step.{Step}
 use Rattle.routes.specs.Routes.{taskOn, coreOn, noStep, RouteTo, PassedAlong, MayShift, Shifted}

@@ -5,7 +5,8 @@ use mathlib.Core.Bool.{cond}
 use mathlib.Core.List.{List}
 use lib.Dec.{ltb}
 use lib.ListN.{length, getD}
-use Rattle.routes.specs.Theory.{Moved, Route, Exchanged}
+use Rattle.fairness.specs.Moves.{Moved}
+use Rattle.fairness.specs.Routes.{Route, Exchanged}
 use Rattle.board.specs.Meaning.{Meaning, SameOrder}
 use Rattle.routes.specs.declared.Step.{Step}
 

@@ -11,7 +11,7 @@ use Rattle.fairness.specs.Laws.{Comparison, Lawful}
 use Rattle.board.specs.Meaning.{Meaning, Sound, totalOf}
 use Rattle.routes.specs.declared.Step.{Step}
 use Rattle.search.specs.Gains.{shareOn, gainsFrom, NoneFreeOn, SafeOn}
-use Rattle.routes.specs.Theory.{shouldGain}
+use Rattle.fairness.specs.Routes.{shouldGain}
 use Rattle.search.specs.declared.Search.{Search}
 use Rattle.search.specs.Searches.{taskAt, Gain}
 use Rattle.search.specs.Chains.{Leads, RestSame}

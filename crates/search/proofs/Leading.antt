@@ -13,7 +13,7 @@ use Rattle.board.specs.Meaning.{Meaning}
 use Rattle.search.specs.declared.Search.{Search}
 use Rattle.search.specs.Searches.{taskAt, throughAt, coreAt, openerAt, Linked, Trail}
 use Rattle.routes.specs.declared.Step.{Step}
-use Rattle.routes.specs.Theory.{Route}
+use Rattle.fairness.specs.Routes.{Route}
 use Rattle.routes.specs.Routes.{noStep, taskOn, coreOn}
 use Rattle.routes.proofs.Along.{task-on, loser-on}
 use Rattle.search.specs.Chains.{Chain, Routed, Leads}

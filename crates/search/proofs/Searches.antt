@@ -13,7 +13,8 @@ use Rattle.std.proofs.shelf.Lanes.{getD-replicate}
 use Rattle.std.proofs.shelf.Tests.{cases-eq, cases-lt, both-ways}
 use Rattle.fairness.specs.Sums.{sumTo}
 use Rattle.fairness.specs.Laws.{Comparison}
-use Rattle.routes.specs.Theory.{shouldGain, Safe, Closed}
+use Rattle.fairness.specs.Routes.{shouldGain}
+use Rattle.fairness.specs.Settled.{Safe, Closed}
 use Rattle.fairness.proofs.Sums.{sum-eq, sum-zero, sum-one}
 use Rattle.board.specs.Meaning.{Meaning, Sound, totalOf, givenAt}
 use Rattle.search.specs.declared.Search.{Search}

@@ -7,7 +7,7 @@ use Rattle.fairness.specs.declared.Share.{Share}
 use lib.Dec.{ltb}
 use Rattle.std.proofs.shelf.Tests.{both-ways, and-parts, ltb-true}
 use Rattle.fairness.specs.Laws.{Comparison, Lawful}
-use Rattle.routes.specs.Theory.{shouldGain, fallen}
+use Rattle.fairness.specs.Routes.{shouldGain, fallen}
 use Rattle.board.specs.Meaning.{Meaning, Sound, totalOf, wholeNeedOf}
 use Rattle.board.proofs.Bounds.{sum-bound, held-small}
 use Rattle.search.specs.Gains.{shareOn, gainsFrom}

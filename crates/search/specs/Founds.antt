@@ -9,7 +9,7 @@ use Rattle.std.specs.declared.option.Option.{Option}
 use Rattle.fairness.specs.Laws.{Comparison}
 use Rattle.board.specs.Meaning.{Meaning, mostCores}
 use Rattle.routes.specs.declared.Step.{Step}
-use Rattle.routes.specs.Theory.{shouldGain}
+use Rattle.fairness.specs.Routes.{shouldGain}
 use Rattle.routes.specs.Routes.{taskOn, RouteTo}
 use Rattle.search.specs.Gains.{shareOn, NoneFreeOn, SafeOn}
 use Rattle.search.specs.Chains.{RestSame}

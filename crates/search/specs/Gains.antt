@@ -4,7 +4,9 @@ use mathlib.Core.Bool.{Bool, _&&_}
 use lib.Dec.{ltb}
 use Rattle.fairness.specs.declared.Share.{Share}
 use Rattle.fairness.specs.Laws.{Comparison}
-use Rattle.routes.specs.Theory.{shareOf, shouldGain, Safe, NoneFree}
+use Rattle.fairness.specs.Levels.{shareOf}
+use Rattle.fairness.specs.Routes.{shouldGain}
+use Rattle.fairness.specs.Settled.{Safe, NoneFree}
 use Rattle.board.specs.Meaning.{Meaning}
 
 -- what a rule is told of a task of the board

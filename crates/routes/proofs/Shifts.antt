@@ -6,7 +6,7 @@ use native.Mathlib.Omega.{arith}
 use lib.Dec.{eqb}
 use Rattle.std.proofs.shelf.Ways.{tells}
 use Rattle.std.proofs.shelf.Tests.{eqb-true, eqb-false, ne-eqb, eq-eqb}
-use Rattle.routes.specs.Theory.{same, slotAt, Moved}
+use Rattle.fairness.specs.Moves.{same, slotAt, Moved}
 use Rattle.board.specs.Meaning.{Meaning, Sound, SameOrder, put, givenAt, withHeld}
 use Rattle.board.specs.Outcomes.{setHeld, done, after}
 use Rattle.board.proofs.Changes.{given-put, done-held}

@@ -3,7 +3,7 @@ ghost use mathlib.Core.Path.{_≡_};
 ghost use Prim.Native.Nat.{ℕ, _+_, _<_, _≤_};
 ghost use Rattle.board.specs.Meaning.{Meaning};
 ghost use Rattle.board.specs.Boards.{Good, Went};
-ghost use Rattle.routes.specs.Routes.{taskOn, Route, MayShift, Shifted, Exchanged};
+ghost use Rattle.routes.specs.Routes.{RouteTo, PassedAlong, MayShift, Shifted};
 use board::Board;
 
 // A task, and the core of which it takes a slot from the next task of a route.
@@ -29,9 +29,9 @@ fn shift<B: Board>(board: &mut B, taker: usize, core: usize, giver: usize)
 // One slot goes from the loser along the route to its first task.
 pub fn exchange<B: Board>(board: &mut B, route: &[Step], loser: usize)
     requires good { ⌜ Good meaning ready (now board) ⌝ }
-    requires route { ⌜ Route (meaning (now board)) (now route) loser ⌝ }
+    requires route { ⌜ RouteTo (meaning (now board)) (now route) loser ⌝ }
     ensures went { λ _. ⌜ Went meaning ready kept (now (board .entry)) (now (board .exit)) ⌝ }
-    ensures exchanged { λ _. ⌜ Exchanged (meaning (now (board .entry))) (meaning (now (board .exit))) (taskOn (now (route .entry)) loser 0) loser ⌝ }
+    ensures passed { λ _. ⌜ PassedAlong (meaning (now (board .entry))) (meaning (now (board .exit))) (now (route .entry)) loser ⌝ }
 {
     let mut giver = loser;
     for i in (0..route.len()).rev() {

@@ -31,16 +31,15 @@ chain-none s x l e k = record {
 
 module _ (s : Search) (x : ℕ) (l : List Step) (k : ℕ) (w : Linked s) (h : Chain s x l k) where
   -- each step has an opening of its own, in order
-  pub chain-by : (i : ℕ) → i < k → i ≤ throughAt s (h .at (i + 1))
+  pub chain-by : (i : ℕ) → i < k → i ≤ throughAt s (h .at (suc i))
   chain-by zero u = omega arith
   chain-by (suc i) u =
       let a = h .next (suc i) u in
       let b = h .next i (omega arith) in
-      let e : h .at (i + 1) ≡ h .at (suc i) = ap (h .at) (omega arith) in
-      let o = throughAt s (h .at (suc i + 1)) in
-      let le : i ≤ throughAt s (h .at (suc i)) = rw e at (chain-by i (omega arith)) in
-      let pos : 0 < openerAt s o = omega (arith, a .1, b .0, e) in
-      let f : throughAt s (openerAt s o) < o = w .falls o (w .cause _ (h .within (suc i + 1) (omega arith)) (a .0)) pos in
+      let o = throughAt s (h .at (suc (suc i))) in
+      let le : i ≤ throughAt s (h .at (suc i)) = chain-by i (omega arith) in
+      let pos : 0 < openerAt s o = omega (arith, a .1, b .0) in
+      let f : throughAt s (openerAt s o) < o = w .falls o (w .cause _ (h .within (suc (suc i)) (omega arith)) (a .0)) pos in
       let g : throughAt s (h .at (suc i)) ≡ throughAt s (openerAt s o) = ap (throughAt s) (a .1) in
       omega arith
 
@@ -48,7 +47,7 @@ module _ (s : Search) (x : ℕ) (l : List Step) (k : ℕ) (w : Linked s) (h : Ch
   pub chain-fits : (y : ℕ) → y < s .count → 0 < y → x ≡ openerAt s (throughAt s y) → k ≤ throughAt s y
   chain-fits y yl pos e = elim (cases-lt 0 k) [
     | inl u ↦
-        let q : k - 1 + 1 ≡ k = omega arith in
+        let q : suc (k - 1) ≡ k = omega arith in
         let le : k - 1 ≤ throughAt s x = rw (q, h .end) at (chain-by (k - 1) (omega arith)) in
         let n = h .next (k - 1) (omega arith) in
         let px : 0 < x = rw (q, h .end) at (n .0) in
@@ -78,16 +77,16 @@ module _ (s : Search) (y : ℕ) (l : List Step) (k : ℕ) (w : Linked s) (yl : y
     at = at′;
     start = old 0 (omega arith) ∙ h .start;
     end = new (k + 1) (omega arith);
-    next = below-more (λ i. (0 < at′ (i + 1)) × (at′ i ≡ openerAt s (throughAt s (at′ (i + 1))))) k
-        (λ i u. rw (old (i + 1) (omega arith), old i (omega arith)) (h .next i u))
-        (rw (new (k + 1) (omega arith), old k (omega arith)) (pos, h .end));
+    next = below-more (λ i. (0 < at′ (suc i)) × (at′ i ≡ openerAt s (throughAt s (at′ (suc i))))) k
+        (λ i u. rw (old (suc i) (omega arith), old i (omega arith)) (h .next i u))
+        (rw (new (suc k) (omega arith), old k (omega arith)) (pos, h .end));
     within = λ i u. elim (cases-lt k i) [ inl v ↦ rw (new i v) yl | inr v ↦ rw (old i v) (h .within i v) ];
     tasks = below-more (λ i. getD (set l k step) i noStep .task ≡ taskAt s (at′ i)) k
         (λ i u. ap (λ (z : Step). z .task) (getD-set-other l k i step noStep (λ e. omega arith)) ∙ (h .tasks i u ∙ ap (taskAt s) (sym (old i (omega arith)))))
         (ap (λ (z : Step). z .task) (getD-set-same l k step noStep kl) ∙ ap (taskAt s) (sym (old k (omega arith) ∙ h .end)));
-    cores = below-more (λ i. coreOn (set l k step) i ≡ coreAt s (throughAt s (at′ (i + 1)))) k
-        (λ i u. ap (λ (z : Step). z .core) (getD-set-other l k i step noStep (λ e. omega arith)) ∙ (h .cores i u ∙ ap (λ z. coreAt s (throughAt s z)) (sym (old (i + 1) (omega arith)))))
-        (ap (λ (z : Step). z .core) (getD-set-same l k step noStep kl) ∙ ap (λ z. coreAt s (throughAt s z)) (sym (new (k + 1) (omega arith))));
+    cores = below-more (λ i. coreOn (set l k step) i ≡ coreAt s (throughAt s (at′ (suc i)))) k
+        (λ i u. ap (λ (z : Step). z .core) (getD-set-other l k i step noStep (λ e. omega arith)) ∙ (h .cores i u ∙ ap (λ z. coreAt s (throughAt s z)) (sym (old (suc i) (omega arith)))))
+        (ap (λ (z : Step). z .core) (getD-set-same l k step noStep kl) ∙ ap (λ z. coreAt s (throughAt s z)) (sym (new (suc k) (omega arith))));
   }
 
   pub rest-more : (l₀ : List Step) → RestSame l₀ l k → RestSame l₀ (set l k step) (k + 1)

@@ -12,12 +12,14 @@ use Rattle.std.proofs.shelf.Lists.{getD-set-same, getD-set-other}
 use Rattle.std.proofs.shelf.Lanes.{getD-replicate}
 use Rattle.std.proofs.shelf.Tests.{cases-eq, cases-lt, both-ways}
 use Rattle.fairness.specs.Sums.{sumTo}
-use Rattle.search.specs.Theory.{Compare, gains, Safe, Closed}
+use Rattle.fairness.specs.Laws.{Comparison}
+use Rattle.fairness.specs.Routes.{shouldGain}
+use Rattle.fairness.specs.Settled.{Safe, Closed}
 use Rattle.fairness.proofs.Sums.{sum-eq, sum-zero, sum-one}
 use Rattle.board.specs.Meaning.{Meaning, Sound, totalOf, givenAt}
 use Rattle.search.specs.declared.Search.{Search}
 use Rattle.search.specs.Searches.{taskAt, throughAt, isFound, coreAt, openerAt, isOpened, reached, empty, Sized, Trail, Covered, CoveredTo, SweptTo, Grown, Complete, Spread, Trying}
-use Rattle.search.specs.Gains.{shouldGain, NoneFree, SafeOn}
+use Rattle.search.specs.Gains.{shareOn, gainsFrom, NoneFreeOn, SafeOn}
 use Rattle.search.proofs.Trails.{flag-more}
 use Rattle.search.proofs.Spreads.{swept-on}
 
@@ -30,7 +32,7 @@ none-set (suc n) (suc k) = none-set n k
 none-count : (n c : ℕ) → sumTo n (λ k. cond (getD (replicate c false) k false) 1 0) ≡ 0
 none-count n c = sum-eq n (λ k. cond (getD (replicate c false) k false) 1 0) (λ k. 0) (λ k l. ap (λ (b : Bool). cond b 1 0) (none-set c k)) ∙ sum-zero n
 
-module _ (cmp : Compare) (m : Meaning) (p : ℕ) (so : Sound m) (pn : p < m .tasks) where
+module _ (compare : Comparison) (m : Meaning) (p : ℕ) (so : Sound m) (pn : p < m .tasks) where
   start-trail : Trail m (reached empty p 0)
   start-trail = record {
     linked = record {
@@ -56,7 +58,7 @@ module _ (cmp : Compare) (m : Meaning) (p : ℕ) (so : Sound m) (pn : p < m .tas
     wants = λ o l. absurd (omega arith);
   }
 
-  pub trying-start : Trying cmp m p (reached empty p 0) 0
+  pub trying-start : Trying compare m p (reached empty p 0) 0
   trying-start = record {
     complete = record { trail = start-trail; covered = λ j i jl il on has. absurd (both-ways _ (none-set 16 j) on) };
     first = refl;
@@ -64,29 +66,29 @@ module _ (cmp : Compare) (m : Meaning) (p : ℕ) (so : Sound m) (pn : p < m .tas
     fails = λ x l. absurd (omega arith);
   }
 
-  pub trying-more : (s t : Search) (h : ℕ) → Trying cmp m p s h → h < s .count → shouldGain cmp m p (taskAt s h) ≡ false → Spread m s t h (m .cores) → Trying cmp m p t (h + 1)
+  pub trying-more : (s t : Search) (h : ℕ) → Trying compare m p s h → h < s .count → gainsFrom compare (shareOn m p) (shareOn m (taskAt s h)) ≡ false → Spread m s t h (m .cores) → Trying compare m p t (h + 1)
   trying-more s t h y l fail sp = record {
     complete = sp .complete;
     first = sp .grown .same 0 (omega arith) ∙ y .first;
     swept = below-more (λ x. SweptTo m t x (m .cores)) h (λ x u. swept-on m s t x (m .cores) (omega arith) (sp .grown) (y .swept x u)) (sp .swept);
-    fails = below-more (λ x. shouldGain cmp m p (taskAt t x) ≡ false) h (λ x u. rw (sp .grown .same x (omega arith)) (y .fails x u)) (rw (sp .grown .same h l) fail);
+    fails = below-more (λ x. gainsFrom compare (shareOn m p) (shareOn m (taskAt t x)) ≡ false) h (λ x u. rw (sp .grown .same x (omega arith)) (y .fails x u)) (rw (sp .grown .same h l) fail);
   }
 
-  pub trying-all : (s : Search) (h : ℕ) → Trying cmp m p s h → s .count ≤ h → NoneFree m → SafeOn cmp m p
+  pub trying-all : (s : Search) (h : ℕ) → Trying compare m p s h → s .count ≤ h → NoneFreeOn m → SafeOn compare m p
   trying-all s h y all none =
       let t = y .complete .trail in
       let at : (i : ℕ) → i < m .tasks → isFound s i ≡ true → (x : ℕ) × (x < h) × (taskAt s x ≡ i) = λ i l f. let w = t .placed i l f in (w .0, omega (arith, w .1), w .2) in
       record {
         set = isFound s;
         closed = record {
-          full = λ i j il jl f less. elim (cases-lt (givenAt m j) (m .capacity j)) [ inl free ↦ absurd (none i j (record { a-task = il; a-core = jl; wants = less; free = free })) | inr full ↦ full ];
+          full = λ i j il jl f less. none i j il jl less;
           inside = λ i j k il jl kl f less some.
               let w = at i il f in
               y .complete .covered j k jl kl (y .swept (w .0) (w .1) j jl (rw (w .2) less)) some;
         };
         own = (let P : ℕ → Type 0 = λ i. isFound s i ≡ true in subst P (y .first) (t .known 0 (t .linked .some)));
-        fails = λ q ql f some.
+        none-gives = λ q ql f some.
             let w = at q ql f in
-            let no : shouldGain cmp m p q ≡ false = rw (w .2) at (y .fails (w .0) (w .1)) in
+            let no : gainsFrom compare (shareOn m p) (shareOn m q) ≡ false = rw (w .2) at (y .fails (w .0) (w .1)) in
             grind (arith, tells);
       }

@@ -1,4 +1,3 @@
-pub mod Theory
 pub mod Gains
 pub mod Searches
 pub mod Chains

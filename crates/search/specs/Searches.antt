@@ -6,9 +6,9 @@ use lib.ListN.{length, getD, set, replicate}
 use Rattle.std.specs.Options.{Cases as BySome}
 use Rattle.std.specs.declared.option.Option.{Option}
 use Rattle.fairness.specs.Sums.{sumTo}
-use Rattle.search.specs.Theory.{Compare}
+use Rattle.fairness.specs.Laws.{Comparison}
 use Rattle.board.specs.Meaning.{Meaning, mostTasks, mostCores}
-use Rattle.search.specs.Gains.{shouldGain, NoneFree, SafeOn}
+use Rattle.search.specs.Gains.{shareOn, gainsFrom, NoneFreeOn, SafeOn}
 use Rattle.search.specs.declared.Search.{Search}
 
 -- the task at place x, the opening that found it, and whether task k is found
@@ -151,19 +151,19 @@ pub record Spread (m : Meaning) (s t : Search) (x b : ℕ) : Type 0 where
   pub swept : SweptTo m t x b
 
 -- none of the tasks at places below h should lose a slot to p, and what they lead to is found
-pub record Trying (cmp : Compare) (m : Meaning) (p : ℕ) (s : Search) (h : ℕ) : Type 0 where
+pub record Trying (compare : Comparison) (m : Meaning) (p : ℕ) (s : Search) (h : ℕ) : Type 0 where
   pub complete : Complete m s
   pub first : taskAt s 0 ≡ p
   pub swept : (x : ℕ) → x < h → SweptTo m s x (m .cores)
-  pub fails : (x : ℕ) → x < h → shouldGain cmp m p (taskAt s x) ≡ false
+  pub fails : (x : ℕ) → x < h → gainsFrom compare (shareOn m p) (shareOn m (taskAt s x)) ≡ false
 
 -- the search began at p, and p should gain a slot from the task at place x
-pub record Gain (cmp : Compare) (m : Meaning) (p : ℕ) (s : Search) (x : ℕ) : Type 0 where
+pub record Gain (compare : Comparison) (m : Meaning) (p : ℕ) (s : Search) (x : ℕ) : Type 0 where
   pub trail : Trail m s
   pub first : taskAt s 0 ≡ p
   pub here : x < s .count
-  pub gains : shouldGain cmp m p (taskAt s x) ≡ true
+  pub gains : gainsFrom compare (shareOn m p) (shareOn m (taskAt s x)) ≡ true
 
 -- what a search from task p comes to: nothing to gain once no slot is free, or the place of the task that should lose a slot
-abbrev pub Sought : Compare → Meaning → ℕ → Search → Option ℕ → Type 0
-Sought cmp m p s r = BySome r (NoneFree m → SafeOn cmp m p) (Gain cmp m p s)
+abbrev pub Sought : Comparison → Meaning → ℕ → Search → Option ℕ → Type 0
+Sought compare m p s r = BySome r (NoneFreeOn m → SafeOn compare m p) (Gain compare m p s)

@@ -3,7 +3,7 @@ ghost use mathlib.Core.Path.{_≡_};
 ghost use Prim.Native.Nat.{ℕ, _+_, _*_, _<_, _≤_};
 ghost use Rattle.board.specs.Meaning.{Meaning, mostTasks, mostCores};
 ghost use Rattle.board.specs.Boards.{Good};
-ghost use Rattle.search.specs.Gains.{ruled, shareOf, gainsBy};
+ghost use Rattle.search.specs.Gains.{shareOn, gainsFrom};
 ghost use lib.ListN.{length};
 ghost use Rattle.search.specs.Chains.{Chain, Leads, RestSame};
 ghost use Rattle.search.specs.Founds.{Searched};
@@ -113,7 +113,7 @@ fn open_wanted<B: Board>(board: &B, search: &mut Search, place: usize)
 // What a rule is told of the task.
 fn share_of<B: Board>(board: &B, task: usize) -> Share
     requires { ⌜ Good meaning ready (now board) ⌝ }
-    ensures is { λ r. ⌜ r ≡ shareOf (meaning (now (board .entry))) task ⌝ }
+    ensures is { λ r. ⌜ r ≡ shareOn (meaning (now (board .entry))) task ⌝ }
     ensures small { λ r. ⌜ r .total ≤ 16000 ⌝ }
 {
     Share { task, whole_need: board.whole_need(task), total: board.total(task) }
@@ -122,7 +122,7 @@ fn share_of<B: Board>(board: &B, task: usize) -> Share
 // Whether a slot that goes from the loser to the gainer makes a plan fairer.
 fn should_gain<R: Rule>(rule: &R, gainer: Share, loser: Share) -> bool
     requires { ⌜ gainer .total ≤ 16000 ⌝ }
-    ensures { λ r. ⌜ r ≡ gainsBy (order (now (rule .entry))) gainer loser ⌝ }
+    ensures { λ r. ⌜ r ≡ gainsFrom (order (now (rule .entry))) gainer loser ⌝ }
 {
     if loser.total == 0 {
         return false;
@@ -143,7 +143,7 @@ fn should_gain<R: Rule>(rule: &R, gainer: Share, loser: Share) -> bool
 fn search_from<B: Board, R: Rule>(board: &B, rule: &R, gainer: usize, search: &mut Search) -> Option<usize>
     requires good { ⌜ Good meaning ready (now board) ⌝ }
     requires gainer { ⌜ gainer < meaning (now board) .tasks ⌝ }
-    ensures { λ r. ⌜ Sought (ruled (order (now (rule .entry))) (meaning (now (board .entry)))) (meaning (now (board .entry))) gainer (now (search .exit)) r ⌝ }
+    ensures { λ r. ⌜ Sought (order (now (rule .entry))) (meaning (now (board .entry))) gainer (now (search .exit)) r ⌝ }
 {
     *search = Search::new();
     search.reach(gainer, 0);
@@ -195,7 +195,7 @@ fn route_from<B: Board, R: Rule>(board: &B, rule: &R, gainer: usize, steps: &mut
     requires good { ⌜ Good meaning ready (now board) ⌝ }
     requires gainer { ⌜ gainer < meaning (now board) .tasks ⌝ }
     requires room { ⌜ mostCores ≤ length (now steps) ⌝ }
-    ensures { λ r. ⌜ Searched (ruled (order (now (rule .entry))) (meaning (now (board .entry)))) (meaning (now (board .entry))) gainer (gainer + 1) (now (steps .entry)) (now (steps .exit)) r ⌝ }
+    ensures { λ r. ⌜ Searched (order (now (rule .entry))) (meaning (now (board .entry))) gainer (gainer + 1) (now (steps .entry)) (now (steps .exit)) r ⌝ }
 {
     let mut search = Search::new();
     let Some(place) = search_from(board, rule, gainer, &mut search) else {
@@ -210,7 +210,7 @@ fn route_among<B: Board, R: Rule>(board: &B, rule: &R, from: usize, to: usize, s
     requires good { ⌜ Good meaning ready (now board) ⌝ }
     requires tasks { ⌜ to ≤ meaning (now board) .tasks ⌝ }
     requires room { ⌜ mostCores ≤ length (now steps) ⌝ }
-    ensures { λ r. ⌜ Searched (ruled (order (now (rule .entry))) (meaning (now (board .entry)))) (meaning (now (board .entry))) from to (now (steps .entry)) (now (steps .exit)) r ⌝ }
+    ensures { λ r. ⌜ Searched (order (now (rule .entry))) (meaning (now (board .entry))) from to (now (steps .entry)) (now (steps .exit)) r ⌝ }
 {
     for gainer in from..to {
         if let Some(found) = route_from(board, rule, gainer, steps) {
@@ -225,7 +225,7 @@ fn route_among<B: Board, R: Rule>(board: &B, rule: &R, from: usize, to: usize, s
 pub fn find_route<B: Board, R: Rule>(board: &B, rule: &R, start: usize, steps: &mut [Step]) -> Option<Found>
     requires good { ⌜ Good meaning ready (now board) ⌝ }
     requires room { ⌜ mostCores ≤ length (now steps) ⌝ }
-    ensures { λ r. ⌜ Searched (ruled (order (now (rule .entry))) (meaning (now (board .entry)))) (meaning (now (board .entry))) 0 (meaning (now (board .entry)) .tasks) (now (steps .entry)) (now (steps .exit)) r ⌝ }
+    ensures { λ r. ⌜ Searched (order (now (rule .entry))) (meaning (now (board .entry))) 0 (meaning (now (board .entry)) .tasks) (now (steps .entry)) (now (steps .exit)) r ⌝ }
 {
     let tasks = board.tasks();
     let first = if start < tasks { start } else { 0 };

@@ -15,4 +15,4 @@ loop-i-again g c =
     )
 
 pub returns : need.returns
-returns g c = record { went = c .loop-i .inv .0; exchanged = along-end _ _ (c .args .route .now) (c .args .loser) (c .loop-i .i) (c .loop-i-test .left) (c .loop-i .inv .1) }
+returns g c = record { went = c .loop-i .inv .0; passed = along-end _ _ (c .args .route .now) (c .args .loser) (c .loop-i .i) (c .loop-i-test .left) (c .loop-i .inv .1) }

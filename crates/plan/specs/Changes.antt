@@ -2,9 +2,6 @@
 use mathlib.Core.Bool.{cond, _&&_, _||_}
 use Prim.Native.Nat.{ℕ}
 use lib.Dec.{ltb, leb, eqb}
-use Rattle.std.specs.declared.option.Option.{Option}
-use Rattle.std.specs.declared.option.Option.the-variants.{Some, None}
-use Rattle.board.specs.declared.fault.Refusal.{Refusal}
 use Rattle.board.specs.declared.fault.Refusal.the-variants.{NoSuchTaskOrCore, AmountTooLarge, NoPairLeft}
 use Rattle.board.specs.Meaning.{Meaning, mostSlots, pairCount, withNeed, withCapacity}
 use Rattle.board.specs.Outcomes.{Outcome, done, refused}
@@ -22,8 +19,3 @@ planCapacity m core amount =
     cond (leb (m .cores) core) (refused NoSuchTaskOrCore)
     (cond (ltb (m .greatest-capacity core) amount) (refused AmountTooLarge)
     (done (withCapacity m core amount)))
-
--- why it is refused, if it is
-abbrev pub refusalOf : Outcome → Option Refusal
-refusalOf (done m) = None
-refusalOf (refused why) = Some why

@@ -3,40 +3,42 @@ ghost use mathlib.Core.Path.{_≡_};
 ghost use Prim.Native.Nat.{ℕ, _+_, _<_, _≤_, min};
 ghost use Rattle.board.specs.Meaning.{Meaning, SameOrder, withHeld, givenAt};
 ghost use Rattle.board.specs.Boards.{Good, Went};
-ghost use Rattle.plan.specs.Changes.{planNeed, planCapacity, refusalOf};
+ghost use Rattle.board.specs.Outcomes.{answered};
+ghost use Rattle.plan.specs.Changes.{planNeed, planCapacity};
 use board::Board;
 use board::MOST_SLOTS;
+use board::fault::Fault;
 use board::fault::Refusal;
 
-// Why a plan refuses the need, if it does.
-pub fn need_refusal<B: Board>(board: &B, task: usize, core: usize, need: u16) -> Option<Refusal>
+// Whether a plan takes the need.
+pub fn test_need<B: Board>(board: &B, task: usize, core: usize, need: u16) -> Result<(), Fault>
     requires { ⌜ Good meaning ready (now board) ⌝ }
-    ensures { λ r. ⌜ r ≡ refusalOf (planNeed (meaning (now (board .entry))) task core need) ⌝ }
+    ensures { λ r. ⌜ r ≡ answered (planNeed (meaning (now (board .entry))) task core need) ⌝ }
 {
     if task >= board.tasks() || core >= board.cores() {
-        return Some(Refusal::NoSuchTaskOrCore);
+        return Err(Refusal::NoSuchTaskOrCore.at(0));
     }
     if need > MOST_SLOTS {
-        return Some(Refusal::AmountTooLarge);
+        return Err(Refusal::AmountTooLarge.at(0));
     }
     if need > 0 && board.need(task, core) == 0 && board.pair_count() >= board.greatest_pairs() {
-        return Some(Refusal::NoPairLeft);
+        return Err(Refusal::NoPairLeft.at(0));
     }
-    None
+    Ok(())
 }
 
-// Why a plan refuses the capacity, if it does.
-pub fn capacity_refusal<B: Board>(board: &B, core: usize, capacity: u16) -> Option<Refusal>
+// Whether a plan takes the capacity.
+pub fn test_capacity<B: Board>(board: &B, core: usize, capacity: u16) -> Result<(), Fault>
     requires { ⌜ Good meaning ready (now board) ⌝ }
-    ensures { λ r. ⌜ r ≡ refusalOf (planCapacity (meaning (now (board .entry))) core capacity) ⌝ }
+    ensures { λ r. ⌜ r ≡ answered (planCapacity (meaning (now (board .entry))) core capacity) ⌝ }
 {
     if core >= board.cores() {
-        return Some(Refusal::NoSuchTaskOrCore);
+        return Err(Refusal::NoSuchTaskOrCore.at(0));
     }
     if capacity > board.greatest_capacity(core) {
-        return Some(Refusal::AmountTooLarge);
+        return Err(Refusal::AmountTooLarge.at(0));
     }
-    None
+    Ok(())
 }
 
 // Takes away the slots of the task at the core that are more than the need to come.

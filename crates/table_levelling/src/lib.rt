@@ -4,7 +4,16 @@ ghost use Prim.Native.Nat.{ℕ, _+_, _<_};
 ghost use Rattle.board.specs.Meaning.{Meaning, planned};
 ghost use Rattle.board.specs.Boards.{Good, Went};
 ghost use Rattle.table_levelling.specs.Copies.{rowTo, tasksTo, lesser, ordered, Roomy, Holds, Above};
+ghost use Rattle.levelling.specs.Levelled.{FairestOn};
+ghost use Rattle.board.specs.Meaning.{SameOrder};
 use board::Board;
+use levelling::level;
+use rules::Rule;
+use table_board::TableBoard;
+use table_board::TableIsBoard;
+
+// The numbers that a table of 64 tasks and 16 cores takes.
+const TABLE_NUMBERS: usize = 2064;
 
 // Gives each core of the clear board `to` the capacity that it has on `from`.
 fn copy_capacities<A: Board, B: Board>(from: &A, to: &mut B)
@@ -114,4 +123,20 @@ fn bring_slots<A: Board, B: Board>(from: &A, to: &mut B)
 {
     lower_slots(from, to);
     raise_slots(from, to);
+}
+
+// Makes the plan on the board fairest. It is levelled on a table, where each number is found at once, and its slots are brought back.
+pub fn level_on_table<B: Board, R: Rule>(board: &mut B, rule: R)
+    requires { ⌜ Good meaning ready (now board) ⌝ }
+    ensures went { λ _. ⌜ Went meaning ready kept (now (board .entry)) (now (board .exit)) ⌝ }
+    ensures order { λ _. ⌜ SameOrder (meaning (now (board .entry))) (meaning (now (board .exit))) ⌝ }
+    ensures fairest { λ _. ⌜ FairestOn (order rule) (meaning (now (board .exit))) ⌝ }
+{
+    let mut cells = [0; TABLE_NUMBERS];
+    let mut table = TableBoard::make(board.tasks(), board.cores(), &mut cells);
+    copy_capacities(board, &mut table);
+    copy_needs(board, &mut table);
+    bring_slots(board, &mut table);
+    level(&mut table, rule);
+    bring_slots(&table, board);
 }

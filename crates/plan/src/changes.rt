@@ -1,14 +1,18 @@
 // What a change of a need or a capacity asks before a plan is levelled anew.
 ghost use mathlib.Core.Path.{_≡_};
 ghost use Prim.Native.Nat.{ℕ, _+_, _<_, _≤_, min};
-ghost use Rattle.board.specs.Meaning.{Meaning, SameOrder, withHeld, givenAt};
+ghost use Rattle.std.specs.declared.result.Result.the-variants.{Ok};
+ghost use Rattle.board.specs.Meaning.{Meaning, SameOrder, withHeld, withNeed, withCapacity, givenAt};
 ghost use Rattle.board.specs.Boards.{Good, Went};
 ghost use Rattle.board.specs.Outcomes.{answered};
+ghost use Rattle.levelling.specs.Levelled.{FairestOn};
 ghost use Rattle.plan.specs.Changes.{planNeed, planCapacity};
 use board::Board;
 use board::MOST_SLOTS;
 use board::fault::Fault;
 use board::fault::Refusal;
+use rules::Rule;
+use table_levelling::level_on_table;
 
 // Whether a plan takes the need.
 pub fn test_need<B: Board>(board: &B, task: usize, core: usize, need: u16) -> Result<(), Fault>
@@ -68,4 +72,30 @@ pub fn fit_capacity<B: Board>(board: &mut B, core: usize, capacity: u16)
         let _ = board.set_held(task, core, left);
         over -= (held - left) as u32;
     }
+}
+
+// Changes a need that a plan takes, and levels.
+pub fn change_need<B: Board, R: Rule>(board: &mut B, rule: R, task: usize, core: usize, need: u16)
+    requires good { ⌜ Good meaning ready (now board) ⌝ }
+    requires taken { ⌜ Ok tt ≡ answered (planNeed (meaning (now board)) task core need) ⌝ }
+    ensures went { λ _. ⌜ Went meaning ready kept (now (board .entry)) (now (board .exit)) ⌝ }
+    ensures order { λ _. ⌜ SameOrder (withNeed (meaning (now (board .entry))) task core need) (meaning (now (board .exit))) ⌝ }
+    ensures fairest { λ _. ⌜ FairestOn (order rule) (meaning (now (board .exit))) ⌝ }
+{
+    fit_need(board, task, core, need);
+    let _ = board.set_need(task, core, need);
+    level_on_table(board, rule);
+}
+
+// Changes a capacity that a plan takes, and levels.
+pub fn change_capacity<B: Board, R: Rule>(board: &mut B, rule: R, core: usize, capacity: u16)
+    requires good { ⌜ Good meaning ready (now board) ⌝ }
+    requires taken { ⌜ Ok tt ≡ answered (planCapacity (meaning (now board)) core capacity) ⌝ }
+    ensures went { λ _. ⌜ Went meaning ready kept (now (board .entry)) (now (board .exit)) ⌝ }
+    ensures order { λ _. ⌜ SameOrder (withCapacity (meaning (now (board .entry))) core capacity) (meaning (now (board .exit))) ⌝ }
+    ensures fairest { λ _. ⌜ FairestOn (order rule) (meaning (now (board .exit))) ⌝ }
+{
+    fit_capacity(board, core, capacity);
+    let _ = board.set_capacity(core, capacity);
+    level_on_table(board, rule);
 }

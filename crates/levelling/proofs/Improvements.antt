@@ -65,5 +65,5 @@ module _ (compare : Comparison) (lawful : Lawful compare) (m : Meaning) (so : So
   taken-better n task core held f e h =
       let P : Meaning → Type 0 = Better compare m in
       let fits : setHeld m task core (m .held task core + 1) ≡ done (withHeld m task core (m .held task core + 1)) =
-          done-held m task core (m .held task core + 1) (f .known-task) (f .known-core) (omega (arith, f .needed)) (omega (arith, f .free)) in
+      done-held m task core (m .held task core + 1) (f .known-task) (f .known-core) (omega (arith, f .needed)) (omega (arith, f .free)) in
       subst P (sym (h ∙ (ap (λ x. after m (setHeld m task core (x + 1))) e ∙ ap (after m) fits))) (free-better task core f)

@@ -1,4 +1,4 @@
-use mathlib.Core.Path.{_≡_, sym, subst}
+use mathlib.Core.Path.{sym, subst}
 use Rattle.board.specs.Meaning.{Meaning, SameOrder}
 use Rattle.levelling.specs.Levelled.{FairestOn}
 use Rattle.levelling.proofs.Onward.{order-on, went-on}

@@ -1,11 +1,16 @@
 -- A new board is sound.
-use mathlib.Core.Path.{_≡_, refl}
-use mathlib.Core.Bool.{true, cond, _&&_}
+use mathlib.Core.Path.{_≡_, refl, sym, ap, _∙_}
+use mathlib.Core.Bool.{Bool, true, false, cond, _&&_}
 use Prim.Native.Nat.{ℕ, _≤_, _<_}
 use native.Mathlib.Omega.{arith}
 use lib.Dec.{ltb, leb}
+use Rattle.std.specs.declared.result.Result.{Result}
+use Rattle.std.specs.Results.{isErr}
 use Rattle.std.proofs.shelf.Ways.{tells}
+use Rattle.std.proofs.shelf.Tests.{true≢false}
 use Rattle.fairness.specs.Sums.{sumTo}
+use Rattle.board.specs.declared.fault.Fault.{Fault}
+use Rattle.board.specs.Outcomes.{checked}
 use Rattle.board.specs.Meaning.{Meaning, Sound, newBoard, sizesAllowed, needed}
 use Rattle.board.proofs.Bounds.{sum-none}
 
@@ -47,3 +52,8 @@ new-sound n m pairs greatest sizes low =
 
 pub empty-sound : (pairs greatest : ℕ) → greatest ≤ 1000 → Sound (newBoard 0 0 pairs greatest)
 empty-sound pairs greatest low = clear-sound 0 0 pairs greatest (omega arith) (omega arith) (λ e. refl) (λ e. refl) low
+
+-- a check that tells no fault passed
+pub passes : (fit : Bool) (told : Result (Unit {0}) Fault) → told ≡ checked fit → false ≡ isErr told → fit ≡ true
+passes true told is none = refl
+passes false told is none = absurd (true≢false (sym (none ∙ ap isErr is)))

@@ -6,6 +6,7 @@ use native.Mathlib.Omega.{arith}
 use lib.Dec.{eqb, ltb, leb}
 use Rattle.std.specs.declared.result.Result.{Result}
 use Rattle.std.specs.declared.result.Result.the-variants.{Ok, Err}
+use Rattle.std.specs.Results.{ErrBy}
 use Rattle.std.proofs.shelf.Ways.{tells}
 use Rattle.std.proofs.shelf.Tests.{cond-both, ltb-false}
 use Rattle.board.specs.declared.fault.Fault.{Fault}
@@ -39,12 +40,12 @@ abbrev IsOk : Result (Unit {0}) Fault → Type 0
 IsOk (Ok u) = Unit {0}
 IsOk (Err f) = ⊥
 
-never : (f : Fault) → _≡_ {A = Result (Unit {0}) Fault} (Err f) (Ok tt) → ⊥
-never f e = subst IsOk (sym e) tt
+never : (f : Fault) → _≡_ {A = Result (Unit {0}) Fault} (Ok tt) (Err f) → ⊥
+never f e = subst IsOk e tt
 
-pub need-passed : (m : Meaning) (task core amount : ℕ) → answered (setNeed m task core amount) ≡ Ok tt → NeedPassed m task core amount (setNeed m task core amount)
+pub need-passed : (m : Meaning) (task core amount : ℕ) → Ok tt ≡ answered (setNeed m task core amount) → NeedPassed m task core amount (setNeed m task core amount)
 need-passed m task core amount =
-    let P : Outcome → Type 0 = λ o. answered o ≡ Ok tt → NeedPassed m task core amount o in
+    let P : Outcome → Type 0 = λ o. Ok tt ≡ answered o → NeedPassed m task core amount o in
     cond-both (leb (m .tasks) task || leb (m .cores) core) _ _ P (λ _ no. absurd (never _ no))
     (λ on. cond-both (ltb 1000 amount) _ _ P (λ _ no. absurd (never _ no))
     (λ e. cond-both (ltb amount (m .held task core)) _ _ P (λ _ no. absurd (never _ no))
@@ -58,9 +59,9 @@ need-passed m task core amount =
       room = h;
     }))))
 
-pub held-passed : (m : Meaning) (task core amount : ℕ) → answered (setHeld m task core amount) ≡ Ok tt → HeldPassed m task core amount (setHeld m task core amount)
+pub held-passed : (m : Meaning) (task core amount : ℕ) → Ok tt ≡ answered (setHeld m task core amount) → HeldPassed m task core amount (setHeld m task core amount)
 held-passed m task core amount =
-    let P : Outcome → Type 0 = λ o. answered o ≡ Ok tt → HeldPassed m task core amount o in
+    let P : Outcome → Type 0 = λ o. Ok tt ≡ answered o → HeldPassed m task core amount o in
     cond-both (leb (m .tasks) task || leb (m .cores) core) _ _ P (λ _ no. absurd (never _ no))
     (λ on. cond-both (ltb (m .need task core) amount) _ _ P (λ _ no. absurd (never _ no))
     (λ e. cond-both (ltb (m .capacity core) (givenAt (withHeld m task core amount) core)) _ _ P (λ _ no. absurd (never _ no))
@@ -71,19 +72,22 @@ held-passed m task core amount =
       within = ltb-false _ _ e;
     })))
 
-pub capacity-passed : (m : Meaning) (core amount : ℕ) → answered (setCapacity m core amount) ≡ Ok tt → CapacityPassed m core amount (setCapacity m core amount)
+pub capacity-passed : (m : Meaning) (core amount : ℕ) → Ok tt ≡ answered (setCapacity m core amount) → CapacityPassed m core amount (setCapacity m core amount)
 capacity-passed m core amount =
-    let P : Outcome → Type 0 = λ o. answered o ≡ Ok tt → CapacityPassed m core amount o in
+    let P : Outcome → Type 0 = λ o. Ok tt ≡ answered o → CapacityPassed m core amount o in
     cond-both (leb (m .cores) core) _ _ P (λ _ no. absurd (never _ no))
     (λ on. cond-both (ltb (m .greatest-capacity core) amount) _ _ P (λ _ no. absurd (never _ no))
     (λ e. cond-both (ltb amount (givenAt m core)) _ _ P (λ _ no. absurd (never _ no))
     (λ f _. record { comes = refl; on-cores = grind (arith, tells); small = ltb-false _ _ e })))
 
 module _ {S : Type 0} (meaning : S → Meaning) (ready : S → Type 0) (kept : S → S → Type 0) (keeping : Keeping kept) where
-  -- the tests told a fault, and nothing was done
-  pub stays : (a : S) (outcome : Outcome) (fault : Fault) → Good meaning ready a → Err fault ≡ answered outcome → Changed meaning ready kept a a outcome (Err fault)
-  stays a (done m) fault good told = absurd (never fault told)
-  stays a (refused why) fault good told = record { told = told; left = refl; unchanged = refl; good = good; keeps = keeping .same a }
+  -- the tests told a fault, which was handed on, and nothing was done
+  pub stays : (a : S) (outcome : Outcome) (r : Result (Unit {0}) Fault) (fault : Fault) → Good meaning ready a → Err fault ≡ answered outcome
+      → ErrBy r (λ told. told ≡ fault) → Changed meaning ready kept a a outcome r
+  stays a (done m) r fault good told handed = absurd (never fault (sym told))
+  stays a (refused why) (Ok u) fault good told handed = absurd handed
+  stays a (refused why) (Err f) fault good told handed =
+      record { told = ap Err handed ∙ told; left = refl; unchanged = refl; good = good; keeps = keeping .same a }
 
 module _ {S : Type 0} (meaning : S → Meaning) (ready : S → Type 0) (kept : S → S → Type 0) where
   -- the tests let the change pass, and it was done
@@ -92,19 +96,19 @@ module _ {S : Type 0} (meaning : S → Meaning) (ready : S → Type 0) (kept : S
   changes a b (done n) m comes left serves sound keeps =
       let same : n ≡ m = ap (after m) comes in
       record { told = refl; left = left ∙ sym same; unchanged = tt; good = record { serves = serves; sound = subst Sound (same ∙ sym left) sound }; keeps = keeps }
-  changes a b (refused why) m comes left serves sound keeps = absurd (never _ (ap answered comes))
+  changes a b (refused why) m comes left serves sound keeps = absurd (never _ (sym (ap answered comes)))
 
-  pub need-changes : (a b : S) (task core amount : ℕ) → Good meaning ready a → answered (setNeed (meaning a) task core amount) ≡ Ok tt
+  pub need-changes : (a b : S) (task core amount : ℕ) → Good meaning ready a → Ok tt ≡ answered (setNeed (meaning a) task core amount)
       → meaning b ≡ withNeed (meaning a) task core amount → ready b → kept a b → Changed meaning ready kept a b (setNeed (meaning a) task core amount) (Ok tt)
   need-changes a b task core amount good passed left serves keeps =
       changes a b _ _ (need-passed (meaning a) task core amount passed .comes) left serves (setNeed-sound (meaning a) task core amount (good .sound)) keeps
 
-  pub held-changes : (a b : S) (task core amount : ℕ) → Good meaning ready a → answered (setHeld (meaning a) task core amount) ≡ Ok tt
+  pub held-changes : (a b : S) (task core amount : ℕ) → Good meaning ready a → Ok tt ≡ answered (setHeld (meaning a) task core amount)
       → meaning b ≡ withHeld (meaning a) task core amount → ready b → kept a b → Changed meaning ready kept a b (setHeld (meaning a) task core amount) (Ok tt)
   held-changes a b task core amount good passed left serves keeps =
       changes a b _ _ (held-passed (meaning a) task core amount passed .comes) left serves (setHeld-sound (meaning a) task core amount (good .sound)) keeps
 
-  pub capacity-changes : (a b : S) (core amount : ℕ) → Good meaning ready a → answered (setCapacity (meaning a) core amount) ≡ Ok tt
+  pub capacity-changes : (a b : S) (core amount : ℕ) → Good meaning ready a → Ok tt ≡ answered (setCapacity (meaning a) core amount)
       → meaning b ≡ withCapacity (meaning a) core amount → ready b → kept a b → Changed meaning ready kept a b (setCapacity (meaning a) core amount) (Ok tt)
   capacity-changes a b core amount good passed left serves keeps =
       changes a b _ _ (capacity-passed (meaning a) core amount passed .comes) left serves (setCapacity-sound (meaning a) core amount (good .sound)) keeps

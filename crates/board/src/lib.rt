@@ -20,7 +20,7 @@ pub fn sizes_allowed(n: usize, m: usize) -> bool
 }
 
 // A board holds for each task and core a need and the slots held, and for each core a capacity.
-// Each call but `tasks`, `cores` and `greatest_pairs` asks that the board is good, and each change leaves it so.
+// Each call but `tasks` and `cores` asks that the board is good, and each change leaves it so.
 pub trait Board {
     // What the board says, whatever memory it lies in.
     ghost meaning: { Self → Meaning };
@@ -52,6 +52,7 @@ pub trait Board {
         ensures { λ r. ⌜ r ≡ meaning (now (self .entry)) .held task core ⌝ };
 
     fn greatest_pairs(&self) -> usize
+        requires { ⌜ Good meaning ready (now self) ⌝ }
         ensures { λ r. ⌜ r ≡ meaning (now (self .entry)) .greatest-pairs ⌝ };
 
     fn greatest_capacity(&self, core: usize) -> u16

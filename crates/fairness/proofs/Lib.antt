@@ -20,3 +20,5 @@ pub mod Routes
 pub mod Ways
 pub mod Levels
 pub mod Theorems
+pub mod Sorting
+pub mod Lexicographic

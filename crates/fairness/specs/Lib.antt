@@ -1,4 +1,5 @@
 pub mod Theorems
+pub mod Lexicographic
 pub mod Settled
 pub mod Routes
 pub mod Moves

@@ -1,10 +1,10 @@
 // The search for a route that makes the plan fairer: breadth first over tasks, each core opened once.
 ghost use mathlib.Core.Path.{_≡_};
-ghost use Prim.Native.Nat.{ℕ, _+_, _*_, _<_, _≤_};
-ghost use Rattle.board.specs.Meaning.{Meaning, mostTasks, mostCores};
+ghost use Prim.Native.Nat.{_+_, _<_, _≤_};
+ghost use lib.ListN.{length};
+ghost use Rattle.board.specs.Meaning.{mostTasks, mostCores};
 ghost use Rattle.board.specs.Boards.{Good};
 ghost use Rattle.search.specs.Gains.{shareOn, gainsFrom};
-ghost use lib.ListN.{length};
 ghost use Rattle.search.specs.Chains.{Chain, Leads, RestSame};
 ghost use Rattle.search.specs.Founds.{Searched};
 ghost use Rattle.search.specs.Searches.{Linked, MayOpen, Opened, Complete, Spread, Sought, reached, entered, empty};
@@ -28,17 +28,17 @@ pub struct Found {
 #[derive(Drop)]
 struct Search {
     // By place: the task, and the opening through which it was found.
-    pub tasks: [usize; MOST_TASKS],
-    pub through: [usize; MOST_TASKS],
+    tasks: [usize; MOST_TASKS],
+    through: [usize; MOST_TASKS],
     // By task.
-    pub found: [bool; MOST_TASKS],
-    pub count: usize,
+    found: [bool; MOST_TASKS],
+    count: usize,
     // By opening: the core, and the place of the task that opened it.
-    pub cores: [usize; MOST_CORES],
-    pub openers: [usize; MOST_CORES],
+    cores: [usize; MOST_CORES],
+    openers: [usize; MOST_CORES],
     // By core.
-    pub opened: [bool; MOST_CORES],
-    pub opens: usize,
+    opened: [bool; MOST_CORES],
+    opens: usize,
 }
 
 impl Search {

@@ -1,5 +1,4 @@
 -- The plan of a sound board meets what the theory of fairness asks of plans.
-use Prim.Native.Nat.{ℕ, _*_, _≤_, _<_}
 use native.Mathlib.Omega.{arith}
 use Rattle.fairness.specs.Plans.{Feasible}
 use Rattle.fairness.specs.Levels.{Countable}

@@ -1,5 +1,5 @@
 -- A slot passed along a fairer route, and a free slot taken, give a fairer plan.
-use Prim.Native.Nat.{ℕ, _+_, _≤_, _<_}
+use Prim.Native.Nat.{ℕ, _+_}
 use mathlib.Core.Path.{_≡_, refl, sym, ap, subst, _∙_}
 use mathlib.Core.Bool.{true}
 use mathlib.Core.List.{List}
@@ -11,7 +11,7 @@ use Rattle.fairness.specs.Plans.{Plan}
 use Rattle.fairness.specs.Moves.{Taken}
 use Rattle.fairness.specs.Routes.{shouldGain, FreeSlotTaken, FairExchange}
 use Rattle.fairness.proofs.Theorems.{free-slot-fairer, exchange-fairer}
-use Rattle.board.specs.Meaning.{Meaning, Sound, SameOrder, put, withHeld}
+use Rattle.board.specs.Meaning.{Meaning, Sound, put, withHeld}
 use Rattle.board.specs.Outcomes.{setHeld, done, after}
 use Rattle.board.proofs.Changes.{done-held}
 use Rattle.routes.specs.declared.Step.{Step}
@@ -65,5 +65,5 @@ module _ (compare : Comparison) (lawful : Lawful compare) (m : Meaning) (so : So
   taken-better n task core held f e h =
       let P : Meaning → Type 0 = Better compare m in
       let fits : setHeld m task core (m .held task core + 1) ≡ done (withHeld m task core (m .held task core + 1)) =
-          done-held m task core (m .held task core + 1) (f .known-task) (f .known-core) (omega (arith, f .needed)) (omega (arith, f .free)) in
+      done-held m task core (m .held task core + 1) (f .known-task) (f .known-core) (omega (arith, f .needed)) (omega (arith, f .free)) in
       subst P (sym (h ∙ (ap (λ x. after m (setHeld m task core (x + 1))) e ∙ ap (after m) fits))) (free-better task core f)

@@ -1,10 +1,8 @@
 -- A number that falls with each improvement, and what holds when none is left.
-use Prim.Native.Nat.{ℕ, _≤_, _<_}
-use mathlib.Core.Path.{_≡_, sym, subst}
+use Prim.Native.Nat.{ℕ, _<_}
+use mathlib.Core.Path.{sym, subst}
 use native.Mathlib.Omega.{arith}
 use Rattle.fairness.specs.Laws.{Comparison, Lawful}
-use Rattle.fairness.specs.Plans.{total}
-use Rattle.fairness.specs.Levels.{Fairer}
 use Rattle.fairness.specs.Settled.{Settled}
 use Rattle.fairness.proofs.Sums.{sum-at}
 use Rattle.fairness.proofs.Rules.{on-board-laws}

@@ -1,5 +1,5 @@
 -- What holds of two changes in a row.
-use mathlib.Core.Path.{_≡_, ap, _∙_}
+use mathlib.Core.Path.{ap, _∙_}
 use Rattle.board.specs.Meaning.{Meaning, SameOrder, planned}
 use Rattle.board.specs.Boards.{Keeping, Went}
 

@@ -1,7 +1,5 @@
 // Levelling: free slots are given out, then single slots pass along routes, until the plan is fairest.
-ghost use mathlib.Core.Path.{_≡_};
-ghost use Prim.Native.Nat.{ℕ, _<_, _≤_};
-ghost use Rattle.board.specs.Meaning.{Meaning, SameOrder};
+ghost use Rattle.board.specs.Meaning.{SameOrder};
 ghost use Rattle.board.specs.Boards.{Good, Went};
 ghost use Rattle.levelling.specs.Levelled.{FirstFree, Improved, FairestOn};
 use board::Board;

@@ -1,14 +1,14 @@
 -- A slot goes along a route, from its last step to its first.
-use Prim.Native.Nat.{ℕ, zero, suc, _+_, _-_, _≤_, _<_}
+use Prim.Native.Nat.{ℕ, suc, _+_, _-_, _≤_, _<_}
 use mathlib.Core.Path.{_≡_, refl, sym, ap, subst, _∙_}
-use mathlib.Core.Bool.{Bool, true, false, cond}
+use mathlib.Core.Bool.{false}
 use mathlib.Core.List.{List}
 use native.Mathlib.Omega.{arith}
-use lib.Dec.{eqb, ltb}
+use lib.Dec.{eqb}
 use lib.ListN.{length, getD}
 use Rattle.std.proofs.shelf.Tests.{ne-eqb, lt-ltb, le-ltb, cond-true, cond-false}
 use Rattle.fairness.specs.Sums.{sumTo}
-use Rattle.fairness.specs.Moves.{slotAt, Moved}
+use Rattle.fairness.specs.Moves.{slotAt}
 use Rattle.fairness.specs.Routes.{Route}
 use Rattle.board.specs.Meaning.{Meaning, SameOrder, planned}
 use Rattle.routes.specs.declared.Step.{Step}

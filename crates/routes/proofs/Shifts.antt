@@ -1,13 +1,9 @@
 -- A slot given, then taken.
-use Prim.Native.Nat.{ℕ, zero, suc, _+_, _-_, _≤_, _<_}
+use Prim.Native.Nat.{ℕ, _+_, _-_}
 use mathlib.Core.Path.{_≡_, refl, sym, ap, subst, _∙_}
-use mathlib.Core.Bool.{Bool, true, false, cond, _&&_}
 use native.Mathlib.Omega.{arith}
-use lib.Dec.{eqb}
 use Rattle.std.proofs.shelf.Ways.{tells}
-use Rattle.std.proofs.shelf.Tests.{eqb-true, eqb-false, ne-eqb, eq-eqb}
-use Rattle.fairness.specs.Moves.{same, slotAt, Moved}
-use Rattle.board.specs.Meaning.{Meaning, Sound, SameOrder, put, givenAt, withHeld}
+use Rattle.board.specs.Meaning.{Meaning, Sound, put, withHeld}
 use Rattle.board.specs.Outcomes.{setHeld, done, after}
 use Rattle.board.proofs.Changes.{given-put, done-held}
 use Rattle.routes.specs.Routes.{MayShift, Shifted}

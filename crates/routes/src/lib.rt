@@ -1,7 +1,4 @@
 // Routes from a gaining task to a losing one, and the exchange of one slot along them.
-ghost use mathlib.Core.Path.{_≡_};
-ghost use Prim.Native.Nat.{ℕ, _+_, _<_, _≤_};
-ghost use Rattle.board.specs.Meaning.{Meaning};
 ghost use Rattle.board.specs.Boards.{Good, Went};
 ghost use Rattle.routes.specs.Routes.{RouteTo, PassedAlong, MayShift, Shifted};
 use board::Board;

@@ -1,17 +1,15 @@
 -- A way back grows by a step; it is short; it is a route.
 use Prim.Native.Nat.{ℕ, zero, suc, _+_, _-_, _≤_, _<_}
-use mathlib.Core.Path.{_≡_, refl, sym, ap, subst, _∙_}
-use mathlib.Core.Bool.{Bool, true, false, cond}
+use mathlib.Core.Path.{_≡_, refl, sym, ap, _∙_}
+use mathlib.Core.Bool.{cond}
 use mathlib.Core.List.{List}
-use mathlib.Core.Logic.{_⊎_, inl, inr}
+use mathlib.Core.Logic.{inl, inr}
 use native.Mathlib.Omega.{arith}
-use native.Mathlib.Numerals.{add-one}
 use lib.Dec.{leb}
 use lib.ListN.{length, getD, set}
 use borrow.Author.Count.{below-more}
-use Rattle.std.proofs.shelf.Ways.{tells}
 use Rattle.std.proofs.shelf.Lists.{getD-set-same, getD-set-other}
-use Rattle.std.proofs.shelf.Tests.{cases-lt, cases-eq, le-leb, lt-leb, cond-true, cond-false}
+use Rattle.std.proofs.shelf.Tests.{cases-lt, le-leb, lt-leb, cond-true, cond-false}
 use Rattle.search.specs.declared.Search.{Search}
 use Rattle.search.specs.Searches.{taskAt, throughAt, coreAt, openerAt, Linked}
 use Rattle.routes.specs.declared.Step.{Step}

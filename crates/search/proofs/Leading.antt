@@ -1,11 +1,9 @@
 -- The way back of a search is a route.
-use Prim.Native.Nat.{ℕ, zero, suc, _+_, _-_, _≤_, _<_}
-use mathlib.Core.Path.{_≡_, refl, sym, ap, subst, _∙_}
-use mathlib.Core.Bool.{Bool, true, false, cond}
+use Prim.Native.Nat.{ℕ, zero, suc, _-_, _≤_, _<_}
+use mathlib.Core.Path.{_≡_, sym, ap, subst, _∙_}
 use mathlib.Core.List.{List}
-use mathlib.Core.Logic.{_⊎_, inl, inr}
+use mathlib.Core.Logic.{inl, inr}
 use native.Mathlib.Omega.{arith}
-use native.Mathlib.Numerals.{add-one}
 use lib.ListN.{length, getD, take}
 use Rattle.std.proofs.shelf.Lists.{getD-take, length-take-le}
 use Rattle.std.proofs.shelf.Tests.{cases-lt, cases-eq}
@@ -16,7 +14,7 @@ use Rattle.routes.specs.declared.Step.{Step}
 use Rattle.fairness.specs.Routes.{Route}
 use Rattle.routes.specs.Routes.{noStep, taskOn, coreOn}
 use Rattle.routes.proofs.Along.{task-on, loser-on}
-use Rattle.search.specs.Chains.{Chain, Routed, Leads}
+use Rattle.search.specs.Chains.{Chain, Leads}
 
 module _ (s : Search) (x : ℕ) (l : List Step) (k : ℕ) (w : Linked s) (h : Chain s x l k) where
   up : (i : ℕ) → i < k → h .at i < h .at (suc i)

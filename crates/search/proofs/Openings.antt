@@ -1,14 +1,14 @@
 -- A core is opened: its holders are found one by one.
-use Prim.Native.Nat.{ℕ, zero, suc, _+_, _-_, _≤_, _<_}
-use mathlib.Core.Path.{_≡_, refl, sym, ap, subst, _∙_}
-use mathlib.Core.Bool.{Bool, true, false, cond}
+use Prim.Native.Nat.{ℕ, _+_, _-_, _≤_, _<_}
+use mathlib.Core.Path.{_≡_, sym, _∙_}
+use mathlib.Core.Bool.{true, false}
 use mathlib.Core.Logic.{_⊎_, inl, inr}
 use native.Mathlib.Omega.{arith}
-use Rattle.std.proofs.shelf.Lists.{getD-set-same, getD-set-other}
-use Rattle.std.proofs.shelf.Tests.{cases-eq, cases-lt, cases-bool, both-ways}
+use Rattle.std.proofs.shelf.Lists.{getD-set-other}
+use Rattle.std.proofs.shelf.Tests.{cases-eq}
 use Rattle.board.specs.Meaning.{Meaning, Sound}
 use Rattle.search.specs.declared.Search.{Search}
-use Rattle.search.specs.Searches.{taskAt, throughAt, isFound, coreAt, openerAt, isOpened, reached, entered, Sized, Trail, Covered, CoveredTo, SweptTo, Grown, MayOpen, Opened}
+use Rattle.search.specs.Searches.{isFound, coreAt, isOpened, reached, entered, Trail, CoveredTo, Grown, MayOpen, Opened}
 use Rattle.search.proofs.Trails.{reached-trail, reached-grown, found-new, found-old, entered-trail, entered-grown, opened-new, core-new, grown-same, grown-on}
 
 -- t is s, with core j opened by opening o, and its holders below k found

@@ -1,24 +1,20 @@
 -- A search begins, goes on, and ends with nothing found.
 use Prim.Native.Nat.{ℕ, zero, suc, _+_, _-_, _≤_, _<_}
 use mathlib.Core.Path.{_≡_, refl, sym, ap, subst, _∙_}
-use mathlib.Core.Bool.{Bool, true, false, cond, _&&_}
-use mathlib.Core.Logic.{_⊎_, inl, inr}
+use mathlib.Core.Bool.{Bool, true, false, cond}
+use mathlib.Core.Logic.{inl, inr}
 use native.Mathlib.Omega.{arith}
-use lib.Dec.{ltb}
-use lib.ListN.{length, getD, set, length-set, replicate, length-replicate}
+use lib.ListN.{getD, set, length-set, replicate, length-replicate}
 use borrow.Author.Count.{below-more}
 use Rattle.std.proofs.shelf.Ways.{tells}
 use Rattle.std.proofs.shelf.Lists.{getD-set-same, getD-set-other}
-use Rattle.std.proofs.shelf.Lanes.{getD-replicate}
-use Rattle.std.proofs.shelf.Tests.{cases-eq, cases-lt, both-ways}
+use Rattle.std.proofs.shelf.Tests.{cases-eq, both-ways}
 use Rattle.fairness.specs.Sums.{sumTo}
 use Rattle.fairness.specs.Laws.{Comparison}
-use Rattle.fairness.specs.Routes.{shouldGain}
-use Rattle.fairness.specs.Settled.{Safe, Closed}
-use Rattle.fairness.proofs.Sums.{sum-eq, sum-zero, sum-one}
-use Rattle.board.specs.Meaning.{Meaning, Sound, totalOf, givenAt}
+use Rattle.fairness.proofs.Sums.{sum-eq, sum-zero}
+use Rattle.board.specs.Meaning.{Meaning, Sound}
 use Rattle.search.specs.declared.Search.{Search}
-use Rattle.search.specs.Searches.{taskAt, throughAt, isFound, coreAt, openerAt, isOpened, reached, empty, Sized, Trail, Covered, CoveredTo, SweptTo, Grown, Complete, Spread, Trying}
+use Rattle.search.specs.Searches.{taskAt, isFound, reached, empty, Trail, SweptTo, Spread, Trying}
 use Rattle.search.specs.Gains.{shareOn, gainsFrom, NoneFreeOn, SafeOn}
 use Rattle.search.proofs.Trails.{flag-more}
 use Rattle.search.proofs.Spreads.{swept-on}

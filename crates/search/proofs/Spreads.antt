@@ -1,13 +1,13 @@
 -- A task opens the cores that it wants, one by one.
-use Prim.Native.Nat.{ℕ, zero, suc, _+_, _-_, _≤_, _<_}
-use mathlib.Core.Path.{_≡_, refl, sym, ap, subst, _∙_}
-use mathlib.Core.Bool.{Bool, true, false, cond}
+use Prim.Native.Nat.{ℕ, _+_, _-_, _≤_, _<_}
+use mathlib.Core.Path.{_≡_}
+use mathlib.Core.Bool.{true, false}
 use mathlib.Core.Logic.{_⊎_, inl, inr}
 use native.Mathlib.Omega.{arith}
 use borrow.Author.Count.{below-more}
-use Rattle.board.specs.Meaning.{Meaning, Sound}
+use Rattle.board.specs.Meaning.{Meaning}
 use Rattle.search.specs.declared.Search.{Search}
-use Rattle.search.specs.Searches.{taskAt, isOpened, Trail, Covered, SweptTo, Grown, MayOpen, Opened, Complete, Spread}
+use Rattle.search.specs.Searches.{taskAt, isOpened, SweptTo, Grown, MayOpen, Opened, Complete, Spread}
 use Rattle.search.proofs.Trails.{grown-same, grown-on}
 
 pub spread-none : (m : Meaning) (s : Search) (x : ℕ) → Complete m s → Spread m s s x 0

@@ -1,10 +1,10 @@
 // The search for a route that makes the plan fairer: breadth first over tasks, each core opened once.
 ghost use mathlib.Core.Path.{_≡_};
-ghost use Prim.Native.Nat.{ℕ, _+_, _*_, _<_, _≤_};
-ghost use Rattle.board.specs.Meaning.{Meaning, mostTasks, mostCores};
+ghost use Prim.Native.Nat.{_+_, _<_, _≤_};
+ghost use lib.ListN.{length};
+ghost use Rattle.board.specs.Meaning.{mostTasks, mostCores};
 ghost use Rattle.board.specs.Boards.{Good};
 ghost use Rattle.search.specs.Gains.{shareOn, gainsFrom};
-ghost use lib.ListN.{length};
 ghost use Rattle.search.specs.Chains.{Chain, Leads, RestSame};
 ghost use Rattle.search.specs.Founds.{Searched};
 ghost use Rattle.search.specs.Searches.{Linked, MayOpen, Opened, Complete, Spread, Sought, reached, entered, empty};
@@ -28,17 +28,17 @@ pub struct Found {
 #[derive(Drop)]
 struct Search {
     // By place: the task, and the opening through which it was found.
-    pub tasks: [usize; MOST_TASKS],
-    pub through: [usize; MOST_TASKS],
+    tasks: [usize; MOST_TASKS],
+    through: [usize; MOST_TASKS],
     // By task.
-    pub found: [bool; MOST_TASKS],
-    pub count: usize,
+    found: [bool; MOST_TASKS],
+    count: usize,
     // By opening: the core, and the place of the task that opened it.
-    pub cores: [usize; MOST_CORES],
-    pub openers: [usize; MOST_CORES],
+    cores: [usize; MOST_CORES],
+    openers: [usize; MOST_CORES],
     // By core.
-    pub opened: [bool; MOST_CORES],
-    pub opens: usize,
+    opened: [bool; MOST_CORES],
+    opens: usize,
 }
 
 impl Search {
@@ -116,7 +116,11 @@ fn share_of<B: Board>(board: &B, task: usize) -> Share
     ensures is { λ r. ⌜ r ≡ shareOn (meaning (now (board .entry))) task ⌝ }
     ensures small { λ r. ⌜ r .total ≤ 16000 ⌝ }
 {
-    Share { task, whole_need: board.whole_need(task), total: board.total(task) }
+    Share {
+        task,
+        whole_need: board.whole_need(task),
+        total: board.total(task),
+    }
 }
 
 // Whether a slot that goes from the loser to the gainer makes a plan fairer.
@@ -127,11 +131,20 @@ fn should_gain<R: Rule>(rule: &R, gainer: Share, loser: Share) -> bool
     if loser.total == 0 {
         return false;
     }
-    let without = Share { total: loser.total - 1, ..loser };
+    let without = Share {
+        total: loser.total - 1,
+        ..loser
+    };
     match rule.compare(gainer, without) {
         Rank::Below => true,
         Rank::Above => false,
-        Rank::Level => match rule.compare(loser, Share { total: gainer.total + 1, ..gainer }) {
+        Rank::Level => match rule.compare(
+            loser,
+            Share {
+                total: gainer.total + 1,
+                ..gainer
+            },
+        ) {
             Rank::Below => true,
             Rank::Level => false,
             Rank::Above => false,
@@ -140,7 +153,12 @@ fn should_gain<R: Rule>(rule: &R, gainer: Share, loser: Share) -> bool
 }
 
 // The place in the search of the first task found that should lose a slot to the gainer.
-fn search_from<B: Board, R: Rule>(board: &B, rule: &R, gainer: usize, search: &mut Search) -> Option<usize>
+fn search_from<B: Board, R: Rule>(
+    board: &B,
+    rule: &R,
+    gainer: usize,
+    search: &mut Search,
+) -> Option<usize>
     requires good { ⌜ Good meaning ready (now board) ⌝ }
     requires gainer { ⌜ gainer < meaning (now board) .tasks ⌝ }
     ensures { λ r. ⌜ Sought (order (now (rule .entry))) (meaning (now (board .entry))) gainer (now (search .exit)) r ⌝ }
@@ -174,7 +192,10 @@ fn write_route(search: &Search, place: usize, steps: &mut [Step]) -> usize
     let opening = search.through[place];
     let opener = search.openers[opening];
     let count = write_route(search, opener, steps);
-    steps[count] = Step { task: search.tasks[opener], core: search.cores[opening] };
+    steps[count] = Step {
+        task: search.tasks[opener],
+        core: search.cores[opening],
+    };
     count + 1
 }
 
@@ -191,7 +212,12 @@ fn route_to(search: &Search, place: usize, steps: &mut [Step]) -> usize
 }
 
 // A route from the gainer.
-fn route_from<B: Board, R: Rule>(board: &B, rule: &R, gainer: usize, steps: &mut [Step]) -> Option<Found>
+fn route_from<B: Board, R: Rule>(
+    board: &B,
+    rule: &R,
+    gainer: usize,
+    steps: &mut [Step],
+) -> Option<Found>
     requires good { ⌜ Good meaning ready (now board) ⌝ }
     requires gainer { ⌜ gainer < meaning (now board) .tasks ⌝ }
     requires room { ⌜ mostCores ≤ length (now steps) ⌝ }
@@ -202,11 +228,21 @@ fn route_from<B: Board, R: Rule>(board: &B, rule: &R, gainer: usize, steps: &mut
         return None;
     };
     let count = route_to(&search, place, steps);
-    Some(Found { gainer, loser: search.tasks[place], steps: count })
+    Some(Found {
+        gainer,
+        loser: search.tasks[place],
+        steps: count,
+    })
 }
 
 // A route from the first of the tasks `from` to `to - 1` that should gain a slot.
-fn route_among<B: Board, R: Rule>(board: &B, rule: &R, from: usize, to: usize, steps: &mut [Step]) -> Option<Found>
+fn route_among<B: Board, R: Rule>(
+    board: &B,
+    rule: &R,
+    from: usize,
+    to: usize,
+    steps: &mut [Step],
+) -> Option<Found>
     requires good { ⌜ Good meaning ready (now board) ⌝ }
     requires tasks { ⌜ to ≤ meaning (now board) .tasks ⌝ }
     requires room { ⌜ mostCores ≤ length (now steps) ⌝ }
@@ -222,7 +258,12 @@ fn route_among<B: Board, R: Rule>(board: &B, rule: &R, from: usize, to: usize, s
 
 // A route by which one slot makes the plan fairer, or none. It asks each task in turn whether it should gain, from `start` on and
 // round to it again, and fills the first entries of the list.
-pub fn find_route<B: Board, R: Rule>(board: &B, rule: &R, start: usize, steps: &mut [Step]) -> Option<Found>
+pub fn find_route<B: Board, R: Rule>(
+    board: &B,
+    rule: &R,
+    start: usize,
+    steps: &mut [Step],
+) -> Option<Found>
     requires good { ⌜ Good meaning ready (now board) ⌝ }
     requires room { ⌜ mostCores ≤ length (now steps) ⌝ }
     ensures { λ r. ⌜ Searched (order (now (rule .entry))) (meaning (now (board .entry))) 0 (meaning (now (board .entry)) .tasks) (now (steps .entry)) (now (steps .exit)) r ⌝ }

@@ -1,4 +1,4 @@
-use mathlib.Core.Path.{_≡_, sym, subst}
+use mathlib.Core.Path.{sym, subst}
 use Rattle.board.specs.Meaning.{Meaning, SameOrder}
 use Rattle.levelling.specs.Levelled.{FairestOn}
 use Rattle.levelling.proofs.Onward.{order-on, went-on}
@@ -13,8 +13,7 @@ loop-gainer-less g c =
 
 pub loop-gainer-again : need.loop-gainer-again
 loop-gainer-again g c =
-    let b = g .B·Board in
-    (
+    let b = g .B·Board in (
       went-on (b .keeping) _ _ _ (c .loop-gainer .inv .0) (c .improve .ensures .went),
       order-on (b .meaning (c .give-out .last .board)) (b .meaning (c .loop-gainer .board)) (b .meaning (c .improve .last .board)) (c .loop-gainer .inv .1) (c .in-Some .ensures tt .improved .same-order),
     )

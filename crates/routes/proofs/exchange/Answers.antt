@@ -1,7 +1,5 @@
-use mathlib.Core.Path.{_≡_, sym}
+use mathlib.Core.Path.{sym}
 use native.Mathlib.Omega.{arith}
-use borrow.Author.Needs.{needs}
-use Rattle.board.specs.Meaning.{Meaning}
 use Rattle.routes.proofs.Along.{along-turn, along-end, task-on}
 use Rattle.routes.proofs.exchange.Needs as need
 

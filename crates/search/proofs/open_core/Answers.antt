@@ -1,11 +1,9 @@
-use mathlib.Core.Path.{_≡_, refl, sym, ap, subst, _∙_}
-use mathlib.Core.Logic.{_⊎_, inl, inr}
+use mathlib.Core.Path.{sym, subst, _∙_}
+use mathlib.Core.Logic.{inl, inr}
 use native.Mathlib.Omega.{arith}
 use Prim.Native.Nat.{_≤_, _<_, _+_}
-use borrow.Author.Needs.{needs}
-use Rattle.board.specs.Meaning.{Meaning, Sound}
+use Rattle.board.specs.Meaning.{Meaning}
 use Rattle.search.specs.declared.Search.{Search}
-use Rattle.search.specs.Searches.{entered, reached}
 use Rattle.search.proofs.Trails.{reach-room, enter-room}
 use Rattle.search.proofs.Openings.{Holders, holders-none, holders-reach, holders-skip, holders-all}
 use Rattle.search.proofs.open_core.Needs as need

@@ -1,4 +1,3 @@
-use Rattle.board.specs.Meaning.{Meaning}
 use Rattle.search.proofs.Openings.{Holders}
 use Rattle.search.proofs.open_core.Given as given
 

@@ -1,12 +1,11 @@
-use mathlib.Core.Path.{_≡_, refl, sym, ap, subst, _∙_}
-use mathlib.Core.Logic.{_⊎_, inl, inr}
+use mathlib.Core.Path.{sym, subst}
+use mathlib.Core.Logic.{inl, inr}
 use native.Mathlib.Omega.{arith}
-use Prim.Native.Nat.{_≤_, _<_, _+_}
-use borrow.Author.Needs.{needs}
-use Rattle.board.specs.Meaning.{Meaning, Sound}
+use Prim.Native.Nat.{_+_}
+use Rattle.board.specs.Meaning.{Meaning}
 use Rattle.search.specs.declared.Search.{Search}
 use Rattle.search.specs.Searches.{Spread}
-use Rattle.search.proofs.Spreads.{spread-none, spread-ready, spread-open, spread-skip}
+use Rattle.search.proofs.Spreads.{spread-none, spread-open, spread-skip}
 use Rattle.search.proofs.open_wanted.Needs as need
 use Rattle.search.proofs.open_wanted.Needs.{then-not-search-core·then-held-need, else-not-search-core, else-not-search-core·by·then-not-search-core·else-held-need, else-not-search-core·by·else-not-search-core}
 

@@ -1,7 +1,6 @@
-use mathlib.Core.Path.{_≡_, refl, sym, ap, subst, _∙_}
-use native.Mathlib.Omega.{arith}
+use mathlib.Core.Path.{sym, ap, subst, _∙_}
 use Rattle.fairness.specs.Laws.{Comparison}
-use Rattle.board.specs.Meaning.{Meaning, Sound}
+use Rattle.board.specs.Meaning.{Meaning}
 use Rattle.search.specs.declared.Search.{Search}
 use mathlib.Core.Bool.{true, false}
 use Rattle.search.specs.Searches.{Trying, reached, taskAt}

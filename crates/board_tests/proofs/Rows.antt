@@ -45,7 +45,7 @@ module _ (n m : ℕ) (rows : List Row) (core : ℕ) (row : Row) (cm : core < m) 
           rw (ec, et) (grind (arith, tells))
       | inr nt ↦
           let got : getD (kind (rowAt (set rows core row) core)) t 0 ≡ getD (kind (rowAt rows core)) t 0 =
-              ap (λ r. getD (kind r) t 0) written ∙ ap (λ xs. getD xs t 0) is ∙ getD-set-other (kind (rowAt rows core)) task t amount 0 nt in
+          ap (λ r. getD (kind r) t 0) written ∙ ap (λ xs. getD xs t 0) is ∙ getD-set-other (kind (rowAt rows core)) task t amount 0 nt in
           rw ec (grind (arith, tells))
     ]
     | inr nc ↦

@@ -19,7 +19,11 @@ pub struct RowBoard {
     rows: [Row; 16],
 }
 
-const CLEAR: Row = Row { capacity: 0, needs: [0; 64], slots: [0; 64] };
+const CLEAR: Row = Row {
+    capacity: 0,
+    needs: [0; 64],
+    slots: [0; 64],
+};
 
 impl RowBoard {
     // A clear board, or the empty one where the sizes are not allowed.
@@ -27,9 +31,17 @@ impl RowBoard {
         ensures { λ r. ⌜ Made n m r ⌝ }
     {
         if board::sizes_allowed(n, m) {
-            RowBoard { tasks: n, cores: m, rows: [CLEAR; 16] }
+            RowBoard {
+                tasks: n,
+                cores: m,
+                rows: [CLEAR; 16],
+            }
         } else {
-            RowBoard { tasks: 0, cores: 0, rows: [CLEAR; 16] }
+            RowBoard {
+                tasks: 0,
+                cores: 0,
+                rows: [CLEAR; 16],
+            }
         }
     }
 }
@@ -52,15 +64,27 @@ pub impl Board for RowBoard as RowIsBoard {
     }
 
     fn capacity(&self, core: usize) -> u16 {
-        if core < self.cores { self.rows[core].capacity } else { 0 }
+        if core < self.cores {
+            self.rows[core].capacity
+        } else {
+            0
+        }
     }
 
     fn need(&self, task: usize, core: usize) -> u16 {
-        if task < self.tasks && core < self.cores { self.rows[core].needs[task] } else { 0 }
+        if task < self.tasks && core < self.cores {
+            self.rows[core].needs[task]
+        } else {
+            0
+        }
     }
 
     fn held(&self, task: usize, core: usize) -> u16 {
-        if task < self.tasks && core < self.cores { self.rows[core].slots[task] } else { 0 }
+        if task < self.tasks && core < self.cores {
+            self.rows[core].slots[task]
+        } else {
+            0
+        }
     }
 
     fn greatest_pairs(&self) -> usize {

@@ -43,8 +43,8 @@ pub others : (n m : ℕ) (entries : List Entry) (used task core here : ℕ) → 
     → (at : ℕ) → at < used → (at ≡ here → ⊥) → isFor (entryAt entries at) task core ≡ false
 others n m entries used task core here serving found at below ne =
     not-for (entryAt entries at) task core (λ e f. ne (serving .alone at here below (found .0)
-      (e ∙ sym (is-task (entryAt entries here) task core (found .1)))
-      (f ∙ sym (is-core (entryAt entries here) task core (found .1)))))
+    (e ∙ sym (is-task (entryAt entries here) task core (found .1)))
+    (f ∙ sym (is-core (entryAt entries here) task core (found .1)))))
 
 pub at-found : (amount : Entry → ℕ) (n m : ℕ) (entries : List Entry) (used task core here : ℕ) → Serving n m entries used → At entries used task core here
     → amounts amount entries used task core ≡ amount (entryAt entries here)

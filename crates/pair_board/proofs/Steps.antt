@@ -145,7 +145,7 @@ pub capacity-changed : (n m used : ℕ) (capacities : List ℕ) (entries : List 
     → pairs n m used (set capacities core amount) entries ≡ withCapacity (pairs n m used capacities entries) core amount
 capacity-changed n m used capacities entries core amount cm long =
     let caps : _≡_ {A = ℕ → ℕ} (λ c. cond (ltb c m) (getD (set capacities core amount) c 0) 0) (λ c. cond (eqb c core) amount (cond (ltb c m) (getD capacities c 0) 0)) =
-        fun-ext (λ c. elim (cases-eq c core) [
+    fun-ext (λ c. elim (cases-eq c core) [
       | inl e ↦ (let got : getD (set capacities core amount) core 0 ≡ amount = getD-set-same capacities core amount 0 (omega arith) in rw e (grind (arith, tells)))
       | inr ne ↦ (let got : getD (set capacities core amount) c 0 ≡ getD capacities c 0 = getD-set-other capacities core c amount 0 ne in grind (arith, tells))
     ]) in

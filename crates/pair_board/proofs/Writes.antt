@@ -36,8 +36,8 @@ moved n m entries fresh used now from inside once same s = record {
   on-cores = λ i l. rw (same i l) (s .on-cores (from i) (inside i l));
   some = λ i l. rw (same i l) (s .some (from i) (inside i l));
   alone = λ i j l k e f. once i j l k (s .alone (from i) (from j) (inside i l) (inside j k)
-    (sym (ap (λ x. x .task) (same i l)) ∙ e ∙ ap (λ x. x .task) (same j k))
-    (sym (ap (λ x. x .core) (same i l)) ∙ f ∙ ap (λ x. x .core) (same j k)));
+      (sym (ap (λ x. x .task) (same i l)) ∙ e ∙ ap (λ x. x .task) (same j k))
+      (sym (ap (λ x. x .core) (same i l)) ∙ f ∙ ap (λ x. x .core) (same j k)));
 }
 
 -- the entry of a pair is changed
@@ -97,21 +97,21 @@ module _ (n m : ℕ) (entries : List Entry) (used : ℕ) (entry : Entry) (task c
 
   pub added : (amount : Entry → ℕ) → amounts amount (set entries used entry) (used + 1) ≡ put (amounts amount entries used) task core (amount entry)
   added amount = fun-ext (λ t. fun-ext (λ c.
-    let more = sum-more used (part amount (set entries used entry) t c) in
-    let before : sumTo used (part amount (set entries used entry) t c) ≡ amounts amount entries used t c =
-        sum-eq used (part amount (set entries used entry) t c) (part amount entries t c) (λ i l. ap (λ x. cond (isFor x t c) (amount x) 0) (old-entry i l)) in
-    let mine : part amount (set entries used entry) t c used ≡ cond (isFor entry t c) (amount entry) 0 = ap (λ x. cond (isFor x t c) (amount x) 0) new-entry in
-    elim (cases-bool (isFor entry t c)) [
-    | inl h ↦
-        let whole : cond (isFor entry t c) (amount entry) 0 ≡ amount entry = cond-true _ _ _ h in
-        let none : amounts amount entries used t c ≡ 0 = absent-none amount entries used t c (λ i l. rw (sym (is-task entry t c h) ∙ et, sym (is-core entry t c h) ∙ ec) (absent i l)) in
-        let put-is = put-for (amounts amount entries used) entry task core (amount entry) t c et ec h in
-        omega (arith, more, before, mine, whole, none, put-is)
-    | inr h ↦
-        let none : cond (isFor entry t c) (amount entry) 0 ≡ 0 = cond-false _ _ _ h in
-        let put-is = put-past (amounts amount entries used) entry task core (amount entry) t c et ec h in
-        omega (arith, more, before, mine, none, put-is)
-    ]))
+      let more = sum-more used (part amount (set entries used entry) t c) in
+      let before : sumTo used (part amount (set entries used entry) t c) ≡ amounts amount entries used t c =
+      sum-eq used (part amount (set entries used entry) t c) (part amount entries t c) (λ i l. ap (λ x. cond (isFor x t c) (amount x) 0) (old-entry i l)) in
+      let mine : part amount (set entries used entry) t c used ≡ cond (isFor entry t c) (amount entry) 0 = ap (λ x. cond (isFor x t c) (amount x) 0) new-entry in
+      elim (cases-bool (isFor entry t c)) [
+        | inl h ↦
+            let whole : cond (isFor entry t c) (amount entry) 0 ≡ amount entry = cond-true _ _ _ h in
+            let none : amounts amount entries used t c ≡ 0 = absent-none amount entries used t c (λ i l. rw (sym (is-task entry t c h) ∙ et, sym (is-core entry t c h) ∙ ec) (absent i l)) in
+            let put-is = put-for (amounts amount entries used) entry task core (amount entry) t c et ec h in
+            omega (arith, more, before, mine, whole, none, put-is)
+        | inr h ↦
+            let none : cond (isFor entry t c) (amount entry) 0 ≡ 0 = cond-false _ _ _ h in
+            let put-is = put-past (amounts amount entries used) entry task core (amount entry) t c et ec h in
+            omega (arith, more, before, mine, none, put-is)
+      ]))
 
   new-task : (i : ℕ) → i ≡ used → entryAt (set entries used entry) i .task ≡ entry .task
   new-task i e = ap (λ x. entryAt (set entries used entry) x .task) e ∙ ap (λ x. x .task) new-entry
@@ -148,12 +148,12 @@ module _ (n m : ℕ) (entries : List Entry) (used : ℕ) (entry : Entry) (task c
       | inr ni ↦
           let under : i < used = omega arith in
           elim (cases-eq j used) [
-          | inl ej ↦ absurd (clash i under (sym (ap (λ x. x .task) (old-entry i under)) ∙ e ∙ new-task j ej) (sym (ap (λ x. x .core) (old-entry i under)) ∙ f ∙ new-core j ej))
-          | inr nj ↦
-              let below : j < used = omega arith in
-              serving .alone i j under below
-              (sym (ap (λ x. x .task) (old-entry i under)) ∙ e ∙ ap (λ x. x .task) (old-entry j below))
-              (sym (ap (λ x. x .core) (old-entry i under)) ∙ f ∙ ap (λ x. x .core) (old-entry j below))
+            | inl ej ↦ absurd (clash i under (sym (ap (λ x. x .task) (old-entry i under)) ∙ e ∙ new-task j ej) (sym (ap (λ x. x .core) (old-entry i under)) ∙ f ∙ new-core j ej))
+            | inr nj ↦
+                let below : j < used = omega arith in
+                serving .alone i j under below
+                (sym (ap (λ x. x .task) (old-entry i under)) ∙ e ∙ ap (λ x. x .task) (old-entry j below))
+                (sym (ap (λ x. x .core) (old-entry i under)) ∙ f ∙ ap (λ x. x .core) (old-entry j below))
           ]
     ];
   }
@@ -191,30 +191,30 @@ module _ (n m : ℕ) (entries : List Entry) (used here last : ℕ) (task core : 
       let more = sum-more last (part amount entries t c) in
       let all : sumTo (last + 1) (part amount entries t c) ≡ sumTo used (part amount entries t c) = ap (λ x. sumTo x (part amount entries t c)) is-last in
       elim (cases-eq here last) [
-      | inl e ↦
-          let kept = sum-eq last (part amount filled t c) (part amount entries t c) (λ i l. ap (λ x. cond (isFor x t c) (amount x) 0) (rest i (λ h. omega arith))) in
-          let mine : part amount entries t c here ≡ part amount entries t c last = ap (part amount entries t c) e in
-          omega (arith, more, all, kept, mine)
-      | inr ne ↦
-          let mine : part amount filled t c here ≡ part amount entries t c last = ap (λ x. cond (isFor x t c) (amount x) 0) gap in
-          let point = sum-point last here (part amount entries t c) (part amount filled t c) (omega (arith, found .0)) (λ i l h. ap (λ x. cond (isFor x t c) (amount x) 0) (rest i h)) in
-          omega (arith, more, all, mine, point)
+        | inl e ↦
+            let kept = sum-eq last (part amount filled t c) (part amount entries t c) (λ i l. ap (λ x. cond (isFor x t c) (amount x) 0) (rest i (λ h. omega arith))) in
+            let mine : part amount entries t c here ≡ part amount entries t c last = ap (part amount entries t c) e in
+            omega (arith, more, all, kept, mine)
+        | inr ne ↦
+            let mine : part amount filled t c here ≡ part amount entries t c last = ap (λ x. cond (isFor x t c) (amount x) 0) gap in
+            let point = sum-point last here (part amount entries t c) (part amount filled t c) (omega (arith, found .0)) (λ i l h. ap (λ x. cond (isFor x t c) (amount x) 0) (rest i h)) in
+            omega (arith, more, all, mine, point)
       ]
 
   pub removed : (amount : Entry → ℕ) → amounts amount filled last ≡ put (amounts amount entries used) task core 0
   removed amount = fun-ext (λ t. fun-ext (λ c.
-    let entry : Entry = entryAt entries here in
-    let et = is-task entry task core (found .1) in
-    let ec = is-core entry task core (found .1) in
-    let fewer = less amount t c in
-    elim (cases-bool (isFor entry t c)) [
-    | inl h ↦
-        let mine : part amount entries t c here ≡ amount entry = cond-true _ _ _ h in
-        let whole : sumTo used (part amount entries t c) ≡ amount entry = at-found amount n m entries used t c here serving (found .0, h) in
-        let put-is = put-for (amounts amount entries used) entry task core 0 t c et ec h in
-        omega (arith, fewer, mine, whole, put-is)
-    | inr h ↦
-        let mine : part amount entries t c here ≡ 0 = cond-false _ _ _ h in
-        let put-is = put-past (amounts amount entries used) entry task core 0 t c et ec h in
-        omega (arith, fewer, mine, put-is)
-    ]))
+      let entry : Entry = entryAt entries here in
+      let et = is-task entry task core (found .1) in
+      let ec = is-core entry task core (found .1) in
+      let fewer = less amount t c in
+      elim (cases-bool (isFor entry t c)) [
+        | inl h ↦
+            let mine : part amount entries t c here ≡ amount entry = cond-true _ _ _ h in
+            let whole : sumTo used (part amount entries t c) ≡ amount entry = at-found amount n m entries used t c here serving (found .0, h) in
+            let put-is = put-for (amounts amount entries used) entry task core 0 t c et ec h in
+            omega (arith, fewer, mine, whole, put-is)
+        | inr h ↦
+            let mine : part amount entries t c here ≡ 0 = cond-false _ _ _ h in
+            let put-is = put-past (amounts amount entries used) entry task core 0 t c et ec h in
+            omega (arith, fewer, mine, put-is)
+      ]))

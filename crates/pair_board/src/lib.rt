@@ -8,11 +8,13 @@ ghost use Rattle.board.specs.Outcomes.{checked};
 ghost use Rattle.pair_board.specs.Entries.{Absent, At};
 ghost use Rattle.pair_board.specs.Pairs.{pairFits, pairsOf, Ready, Untouched, Made};
 ghost use Rattle.pair_board.specs.Kept.{untouched-keeps};
+
 pub mod entry;
-use entry::Entry;
+
 use board::Board;
 use board::fault::Fault;
 use board::fault::Refusal;
+use entry::Entry;
 
 // The entries in use come first.
 #[derive(Drop)]
@@ -41,9 +43,21 @@ impl<'a> PairBoard<'a> {
         ensures { λ r. ⌜ Made n m (entries .entry) r ⌝ }
     {
         if PairBoard::check(n, m, entries).is_err() {
-            return PairBoard { tasks: 0, cores: 0, used: 0, capacities: [0; 16], entries };
+            return PairBoard {
+                tasks: 0,
+                cores: 0,
+                used: 0,
+                capacities: [0; 16],
+                entries,
+            };
         }
-        PairBoard { tasks: n, cores: m, used: 0, capacities: [0; 16], entries }
+        PairBoard {
+            tasks: n,
+            cores: m,
+            used: 0,
+            capacities: [0; 16],
+            entries,
+        }
     }
 }
 
@@ -81,7 +95,11 @@ pub impl<'a> Board for PairBoard<'a> as PairIsBoard {
     }
 
     fn capacity(&self, core: usize) -> u16 {
-        if core < self.cores { self.capacities[core] } else { 0 }
+        if core < self.cores {
+            self.capacities[core]
+        } else {
+            0
+        }
     }
 
     fn need(&self, task: usize, core: usize) -> u16 {
@@ -103,7 +121,11 @@ pub impl<'a> Board for PairBoard<'a> as PairIsBoard {
     }
 
     fn greatest_capacity(&self, core: usize) -> u16 {
-        if core < self.cores { board::MOST_SLOTS } else { 0 }
+        if core < self.cores {
+            board::MOST_SLOTS
+        } else {
+            0
+        }
     }
 
     fn set_need(&mut self, task: usize, core: usize, need: u16) -> Result<(), Fault> {
@@ -122,7 +144,12 @@ pub impl<'a> Board for PairBoard<'a> as PairIsBoard {
             None => {
                 if need > 0 {
                     let next = self.used;
-                    self.entries[next] = Entry { task: task as u8, core: core as u8, need, held: 0 };
+                    self.entries[next] = Entry {
+                        task: task as u8,
+                        core: core as u8,
+                        need,
+                        held: 0,
+                    };
                     self.used = next + 1;
                 }
             }

@@ -13,6 +13,6 @@ returns c =
     let p = capacity-passed (pairsOf b) (c .args .core) (c .args .capacity) (c .in-Continue-test-capacity .ensures tt) in
     capacity-changes pairsOf Ready Untouched b _ (c .args .core) (c .args .capacity) (c .pre) (c .in-Continue-test-capacity .ensures tt)
     (capacity-changed (b .tasks) (b .cores) (b .used) (b .capacities) (b .entries .now) (c .args .core) (c .args .capacity) (p .on-cores)
-      (omega (arith, c .pre .serves .sixteen, c .pre .sound .few-cores)))
+    (omega (arith, c .pre .serves .sixteen, c .pre .sound .few-cores)))
     (record { sixteen = simp length-set (c .pre .serves .sixteen); counted = c .pre .serves .counted; serving = c .pre .serves .serving })
     (record { whose = refl; past = refl; same-length = refl; same-tasks = refl; same-cores = refl })

@@ -41,7 +41,7 @@ returns-then-need-gt0 c =
     let fits : b .used ≤ length entries = omega (arith, inside) in
     let left = need-changed (b .tasks) (b .cores) (b .used) (b .capacities) entries (serves .serving) fits task core here found (c .args .need) (c .if-need-gt0 .taken) in
     let was : needed (m .need task core) ≡ 1 =
-        needed-one _ (omega (arith, serves .serving .some here (found .0), need-there (b .tasks) (b .cores) (b .used) (b .capacities) entries (serves .serving) fits task core here found (c .args .need))) in
+    needed-one _ (omega (arith, serves .serving .some here (found .0), need-there (b .tasks) (b .cores) (b .used) (b .capacities) entries (serves .serving) fits task core here found (c .args .need))) in
     let count = recounted m _ task core (c .args .need) (p .on-tasks) (p .on-cores) left in
     need-changes pairsOf Ready Untouched b _ task core (c .args .need) (c .pre) (c .in-Continue-test-need .ensures tt) left
     (record {
@@ -70,7 +70,7 @@ returns-else-need-gt0 c =
     let is-last : last + 1 ≡ b .used = omega (arith, found .0) in
     let left = pair-removed (b .tasks) (b .cores) (b .used) (b .capacities) entries (serves .serving) fits task core here last found is-last (omega (arith, p .covers, zero)) in
     let was : needed (m .need task core) ≡ 1 =
-        needed-one _ (omega (arith, serves .serving .some here (found .0), need-there (b .tasks) (b .cores) (b .used) (b .capacities) entries (serves .serving) fits task core here found 0)) in
+    needed-one _ (omega (arith, serves .serving .some here (found .0), need-there (b .tasks) (b .cores) (b .used) (b .capacities) entries (serves .serving) fits task core here found 0)) in
     let count = recounted m _ task core 0 (p .on-tasks) (p .on-cores) left in
     need-changes pairsOf Ready Untouched b _ task core (c .args .need) (c .pre) (c .in-Continue-test-need .ensures tt)
     (left ∙ ap (withNeed m task core) (sym zero))

@@ -45,7 +45,7 @@ pairs-put m task core amount tn cm =
     let here : needed (changed task core) ≡ needed amount = ap needed (put-here (m .need) task core amount) in
     let row = sum-point (m .cores) core (λ c. needed (m .need task c)) (λ c. needed (changed task c)) cm (λ c _ ne. ap needed (put-other-core (m .need) task core amount task c ne)) in
     let all = sum-point (m .tasks) task (λ t. sumTo (m .cores) (λ c. needed (m .need t c))) (λ t. sumTo (m .cores) (λ c. needed (changed t c))) tn
-        (λ t _ ne. sum-eq (m .cores) (λ c. needed (changed t c)) (λ c. needed (m .need t c)) (λ c _. ap needed (put-other-task (m .need) task core amount t c ne))) in
+    (λ t _ ne. sum-eq (m .cores) (λ c. needed (changed t c)) (λ c. needed (m .need t c)) (λ c _. ap needed (put-other-task (m .need) task core amount t c ne))) in
     omega (arith, here, row, all)
 
 -- a change on the board that fits is done; `refused-..` name the test that stops it
@@ -204,9 +204,9 @@ setNeed-sound m task core amount s =
     (λ e. cond-both (ltb amount (m .held task core)) _ _ P (λ _. s)
     (λ f. cond-both (ltb 0 amount && eqb (m .need task core) 0 && leb (m .greatest-pairs) (pairCount m)) _ _ P (λ _. s)
     (λ h.
-      let tn = on-board-left (m .tasks) (m .cores) task core on in
-      let cm = on-board-right (m .tasks) (m .cores) task core on in
-      need-sound m task core amount s tn cm (not-below _ _ e) (not-below _ _ f) (pair-fits amount (m .need task core) (m .greatest-pairs) (pairCount m) _ h (s .few-pairs) (pairs-put m task core amount tn cm))))))
+    let tn = on-board-left (m .tasks) (m .cores) task core on in
+    let cm = on-board-right (m .tasks) (m .cores) task core on in
+    need-sound m task core amount s tn cm (not-below _ _ e) (not-below _ _ f) (pair-fits amount (m .need task core) (m .greatest-pairs) (pairCount m) _ h (s .few-pairs) (pairs-put m task core amount tn cm))))))
 
 pub setCapacity-sound : (m : Meaning) (core amount : ℕ) → Sound m → Sound (after m (setCapacity m core amount))
 setCapacity-sound m core amount s =

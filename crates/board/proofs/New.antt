@@ -57,3 +57,8 @@ empty-sound pairs greatest low = clear-sound 0 0 pairs greatest (omega arith) (o
 pub passes : (fit : Bool) (told : Result (Unit {0}) Fault) → told ≡ checked fit → false ≡ isErr told → fit ≡ true
 passes true told is none = refl
 passes false told is none = absurd (true≢false (sym (none ∙ ap isErr is)))
+
+-- and one that tells a fault did not
+pub refuses : (fit : Bool) (told : Result (Unit {0}) Fault) → told ≡ checked fit → true ≡ isErr told → fit ≡ false
+refuses true told is some = absurd (true≢false (some ∙ ap isErr is))
+refuses false told is some = refl

@@ -52,7 +52,10 @@ impl Refusal {
     pub fn at(self, place: usize) -> Fault
         ensures { λ r. ⌜ r ≡ faultAt self place ⌝ }
     {
-        Fault { refusal: self, place }
+        Fault {
+            refusal: self,
+            place,
+        }
     }
 }
 

@@ -3,11 +3,14 @@ ghost use mathlib.Core.Path.{_≡_};
 ghost use Rattle.board.specs.Meaning.{Meaning, givenAt, freeAt, freeSlots, totalOf, wholeNeedOf, pairCount, sizesAllowed};
 ghost use Rattle.board.specs.Outcomes.{answered, setNeed, setHeld, setCapacity};
 ghost use Rattle.board.specs.Boards.{Keeping, Good, Changed, Cleared};
+
 pub mod fault;
+
 use fault::Fault;
 use fault::Refusal;
 
 pub const MOST_TASKS: usize = 64;
+
 pub const MOST_CORES: usize = 16;
 // The greatest need, and the most that a board may allow as a capacity.
 pub const MOST_SLOTS: u16 = 1000;

@@ -39,16 +39,16 @@ grid-put n m cells from task core amount tn cm fits t c =
     let here : ℕ = from + (task * m + core) in
     let there : ℕ = from + (t * m + c) in
     elim (cases-lt c m) [
-    | inl inside ↦ elim (cases-eq there here) [
-      | inl e ↦
-          let pair = same-place m task core t c cm inside (omega arith) in
-          let got : getD (set cells here amount) here 0 ≡ amount = getD-set-same cells here amount 0 fits in
-          rw (pair .0, pair .1) (grind (arith, tells))
-      | inr ne ↦
-          let got : getD (set cells here amount) there 0 ≡ getD cells there 0 = getD-set-other cells here there amount 0 ne in
-          grind (arith, tells)
-    ]
-    | inr out ↦ grind (arith, tells)
+      | inl inside ↦ elim (cases-eq there here) [
+        | inl e ↦
+            let pair = same-place m task core t c cm inside (omega arith) in
+            let got : getD (set cells here amount) here 0 ≡ amount = getD-set-same cells here amount 0 fits in
+            rw (pair .0, pair .1) (grind (arith, tells))
+        | inr ne ↦
+            let got : getD (set cells here amount) there 0 ≡ getD cells there 0 = getD-set-other cells here there amount 0 ne in
+            grind (arith, tells)
+      ]
+      | inr out ↦ grind (arith, tells)
     ]
 
 module _ (n m : ℕ) (cells : List ℕ) where
@@ -68,7 +68,7 @@ module _ (n m : ℕ) (cells : List ℕ) where
       let helds : grid n m (set cells at amount) (n * m) ≡ grid n m cells (n * m) = fun-ext (λ t. fun-ext (λ c. grid-past n m cells (n * m) at amount (λ a b an bm e. omega arith) t c)) in
       let caps = capacities-past at amount (omega arith) in
       let all : table n m (set cells at amount) ≡ withNeed (table n m cells) task core amount =
-          λ j. record { tasks = n; cores = m; capacity = caps j; need = needs j; held = helds j; greatest-pairs = n * m; greatest-capacity = λ core. cond (ltb core m) mostSlots 0 } in
+      λ j. record { tasks = n; cores = m; capacity = caps j; need = needs j; held = helds j; greatest-pairs = n * m; greatest-capacity = λ core. cond (ltb core m) mostSlots 0 } in
       ap (λ p. table n m (set cells p amount)) (sym (zero-add (task * m + core))) ∙ all
 
   pub held-written : (task core amount : ℕ) → task < n → core < m → numbers n m ≤ length cells

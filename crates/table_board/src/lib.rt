@@ -44,10 +44,18 @@ impl<'a> TableBoard<'a> {
         ensures { λ r. ⌜ Made n m (cells .entry) r ⌝ }
     {
         if TableBoard::check(n, m, cells).is_err() {
-            return TableBoard { tasks: 0, cores: 0, cells };
+            return TableBoard {
+                tasks: 0,
+                cores: 0,
+                cells,
+            };
         }
         wipe(cells, 2 * (n * m) + m);
-        TableBoard { tasks: n, cores: m, cells }
+        TableBoard {
+            tasks: n,
+            cores: m,
+            cells,
+        }
     }
 }
 
@@ -97,7 +105,11 @@ pub impl<'a> Board for TableBoard<'a> as TableIsBoard {
     }
 
     fn greatest_capacity(&self, core: usize) -> u16 {
-        if core < self.cores { board::MOST_SLOTS } else { 0 }
+        if core < self.cores {
+            board::MOST_SLOTS
+        } else {
+            0
+        }
     }
 
     fn set_need(&mut self, task: usize, core: usize, need: u16) -> Result<(), Fault> {

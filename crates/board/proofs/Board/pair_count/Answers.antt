@@ -16,8 +16,8 @@ loop-core-again g c =
     let more = sum-more core (λ k. needed (m .need task k)) in
     let e : c .need .result ≡ m .need task core = c .need .ensures in
     elim (c .if-need-gt0 .came) [
-      then-need-gt0 w ↦ (let one : needed (m .need task core) ≡ 1 = needed-one (m .need task core) (omega (arith, w .if-need-gt0 .taken)) in (omega (arith, w .count-is, more), omega (arith, w .count-is)))
-    | else-need-gt0 w ↦ (let none : needed (m .need task core) ≡ 0 = needed-none (m .need task core) (omega (arith, w .if-need-gt0 .left)) in (omega (arith, w .count-is, more), omega (arith, w .count-is)))
+      | then-need-gt0 w ↦ (let one : needed (m .need task core) ≡ 1 = needed-one (m .need task core) (omega (arith, w .if-need-gt0 .taken)) in (omega (arith, w .count-is, more), omega (arith, w .count-is)))
+      | else-need-gt0 w ↦ (let none : needed (m .need task core) ≡ 0 = needed-none (m .need task core) (omega (arith, w .if-need-gt0 .left)) in (omega (arith, w .count-is, more), omega (arith, w .count-is)))
     ]
 
 pub loop-task-again : need.loop-task-again

@@ -6,11 +6,11 @@ use mathlib.Core.Logic.{_⊎_, inl, inr}
 use native.Mathlib.Omega.{arith}
 use lib.Dec.{leb, ltb}
 use Rattle.std.proofs.shelf.Tests.{and-parts, and-from, lt-ltb, ltb-true, cases-lt, both-ways, not-true, cases-eq}
-use Rattle.fairness.specs.Sums.{sumTo}
+use Rattle.fairness.specs.Sums.{sumTo, someTo}
 use Rattle.fairness.specs.Plans.{given, total, Feasible}
 use Rattle.fairness.specs.Settled.{Closed}
 use Rattle.fairness.proofs.Steps.{Capped, Falling, Held, worth}
-use Rattle.fairness.proofs.Sums.{sumIn, someTo, sum-le, sum-eq, sum-at, sum-split, sum-swap, in-le, some-has, some-from}
+use Rattle.fairness.proofs.Sums.{sumIn, sum-le, sum-eq, sum-at, sum-split, sum-swap, in-le, some-has, some-from}
 use Rattle.fairness.proofs.Tight.{tight}
 use Rattle.fairness.proofs.Fronts.{falls, front-closed, front-own, front-last}
 

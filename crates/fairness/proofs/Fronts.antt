@@ -9,7 +9,8 @@ use Rattle.std.proofs.shelf.Tests.{and-parts, and-from, lt-ltb, ltb-true, leb-t
 use Rattle.fairness.specs.Plans.{total}
 use Rattle.fairness.specs.Settled.{Closed}
 use Rattle.fairness.proofs.Steps.{Falling, Held}
-use Rattle.fairness.proofs.Sums.{someTo, some-has, some-from}
+use Rattle.fairness.specs.Sums.{someTo}
+use Rattle.fairness.proofs.Sums.{some-has, some-from}
 use Rattle.fairness.proofs.Tight.{closed-union}
 
 pub falls : (n : ℕ) (cap : ℕ → ℕ) (g : ℕ → ℕ → ℕ) → Falling n cap g → (i k l : ℕ) → i < n → k ≤ l → l < cap i → g i l ≤ g i k

@@ -6,10 +6,10 @@ use mathlib.Core.Logic.{_⊎_, inl, inr}
 use native.Mathlib.Omega.{arith}
 use lib.Dec.{leb, ltb}
 use Rattle.std.proofs.shelf.Tests.{and-parts, and-from, lt-ltb, ltb-true}
-use Rattle.fairness.specs.Sums.{sumTo}
+use Rattle.fairness.specs.Sums.{sumTo, someTo}
 use Rattle.fairness.specs.Plans.{given, total, Feasible}
 use Rattle.fairness.specs.Settled.{Closed}
-use Rattle.fairness.proofs.Sums.{sumIn, someTo, sum-le, in-le, in-all, in-whole, in-swap, some-cases, some-has, some-from}
+use Rattle.fairness.proofs.Sums.{sumIn, sum-le, in-le, in-all, in-whole, in-swap, some-cases, some-has, some-from}
 
 module _ (n m : ℕ) (d : ℕ → ℕ → ℕ) (c : ℕ → ℕ) (a : ℕ → ℕ → ℕ) where
   -- at one core

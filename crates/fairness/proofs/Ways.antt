@@ -8,7 +8,8 @@ use lib.Dec.{leb, ltb, eqb}
 use Rattle.std.proofs.shelf.Tests.{cases-lt, eqb-true, both-ways, cond-true, cond-false, le-leb, lt-leb, lt-ltb, le-ltb}
 use Rattle.fairness.specs.Plans.{Plan}
 use Rattle.fairness.specs.Routes.{Route}
-use Rattle.fairness.proofs.Reach.{layer, Fresh, parent, apart, layer-next}
+use Rattle.fairness.specs.Decision.{layer}
+use Rattle.fairness.proofs.Reach.{Fresh, parent, apart, layer-next}
 
 -- a way from p to q that goes up one layer with each step
 pub record Way (n m : ℕ) (need held : Plan) (p steps q : ℕ) : Type 0 where

@@ -6,11 +6,11 @@ use mathlib.Core.Logic.{_⊎_, inl, inr}
 use native.Mathlib.Omega.{arith}
 use lib.Dec.{leb, ltb}
 use Rattle.std.proofs.shelf.Tests.{and-parts, and-from, lt-ltb, ltb-true, leb-true, le-leb, cases-lt, cases-bool, both-ways, not-true, not-from-false}
-use Rattle.fairness.specs.Sums.{sumTo}
+use Rattle.fairness.specs.Sums.{sumTo, someTo}
 use Rattle.fairness.specs.Plans.{given, total, Feasible}
 use Rattle.fairness.specs.Settled.{Closed}
 use Rattle.fairness.proofs.Steps.{Capped, Falling, Strict, Held}
-use Rattle.fairness.proofs.Sums.{sumIn, someTo, sum-le, sum-eq, in-lt, in-le, in-all, in-whole, in-swap, some-has, some-from, some-cases}
+use Rattle.fairness.proofs.Sums.{sumIn, sum-le, sum-eq, in-lt, in-le, in-all, in-whole, in-swap, some-has, some-from, some-cases}
 use Rattle.fairness.proofs.Tight.{closed-union}
 use Rattle.fairness.proofs.Fronts.{falls, front, front-closed, front-own, front-last}
 

@@ -20,7 +20,7 @@ use Rattle.fairness.proofs.Reach.{stable, layer-own, layer-next}
 use Rattle.fairness.proofs.Fairest.{reached-no-gain, reached-no-free}
 use Rattle.fairness.proofs.Theorems.{settled-is-fairest, fairest-same-levels, totals-within-one}
 
-feasible-from : (n m : ℕ) (need : Plan) (capacity : ℕ → ℕ) (held : Plan) → isFeasible n m need capacity held ≡ true → Feasible n m need capacity held
+pub feasible-from : (n m : ℕ) (need : Plan) (capacity : ℕ → ℕ) (held : Plan) → isFeasible n m need capacity held ≡ true → Feasible n m need capacity held
 feasible-from n m need capacity held h =
     let x = and-parts (allTo n (λ task. allTo m (λ core. leb (held task core) (need task core)))) (allTo m (λ core. leb (given n held core) (capacity core))) h in
     record {
@@ -159,11 +159,14 @@ only-these compare lawful n m need capacity few held fairest only other also tas
     let u : ℕ → ℕ = f .0 in
     elim (or-cases (allTo n (λ task. eqb (u task) (t task))) (not (sameCounts compare n whole t u)) (f .1)) [
       | inl e ↦ sym (f .2 task l) ∙ eqb-true _ _ (all-has n (λ task. eqb (u task) (t task)) e task l)
-      | inr e ↦ absurd (both-ways _ (not-true _ e) (all-from n _ (λ i v. eq-eqb _ _ (
-        fairest-same-levels compare lawful n m need capacity held other fairest also i (t i)
-        ∙ sum-eq n _ _ (λ k w. ap (λ x. cond (atMost (compare (shareWith whole k x) (shareWith whole i (t i)))) 1 0) (sym (f .2 k w)))
-      ))))
+      | inr e ↦ absurd (both-ways _ (not-true _ e) (all-from n _ (λ i v. and-from _ _ (eq-eqb _ _ (alike u (f .2) i (t i))) (eq-eqb _ _ (alike u (f .2) i (u i))))))
     ]
+  where
+    alike : (u : ℕ → ℕ) → ((k : ℕ) → k < n → u k ≡ total m other k) → (i slots : ℕ)
+        → countAt compare n (total m need) (total m held) (shareWith (total m need) i slots) ≡ countAt compare n (total m need) u (shareWith (total m need) i slots)
+    alike u same i slots =
+        fairest-same-levels compare lawful n m need capacity held other fairest also i slots
+        ∙ sum-eq n _ _ (λ k w. ap (λ x. cond (atMost (compare (shareWith (total m need) k x) (shareWith (total m need) i slots))) 1 0) (sym (same k w)))
 
 -- steps that pass the test make a route
 pub route-from : (n m : ℕ) (need held : Plan) (steps : ℕ) (at through : ℕ → ℕ) → isRoute n m need held steps at through ≡ true → Route n m need held steps at through

@@ -45,10 +45,11 @@ Fairest-decided =
 abbrev pub countAt : Comparison → ℕ → (ℕ → ℕ) → (ℕ → ℕ) → Share → ℕ
 countAt compare n whole totals level = sumTo n (λ task. cond (atMost (compare (shareWith whole task (totals task)) level)) 1 0)
 
--- equally many at or below each level that a task has with the first totals
+-- equally many at or below each level that a task has with either totals
 abbrev pub sameCounts : Comparison → ℕ → (ℕ → ℕ) → (ℕ → ℕ) → (ℕ → ℕ) → Bool
-sameCounts compare n whole first second =
-    allTo n (λ task. eqb (countAt compare n whole first (shareWith whole task (first task))) (countAt compare n whole second (shareWith whole task (first task))))
+sameCounts compare n whole first second = allTo n (λ task.
+  eqb (countAt compare n whole first (shareWith whole task (first task))) (countAt compare n whole second (shareWith whole task (first task)))
+  && eqb (countAt compare n whole first (shareWith whole task (second task))) (countAt compare n whole second (shareWith whole task (second task))))
 
 abbrev pub withTotal : (ℕ → ℕ) → ℕ → ℕ → ℕ → ℕ
 withTotal totals task amount t = cond (eqb t task) amount (totals t)

@@ -1,8 +1,8 @@
 -- The computation tells the fairest plans from the others.
 use Prim.Native.Nat.{ℕ, zero, suc, _+_, _-_, _≤_, _<_}
-use mathlib.Core.Path.{_≡_, refl, sym, ap, _∙_}
-use mathlib.Core.Bool.{Bool, true, false, cond, not, _&&_, _||_}
-use mathlib.Core.Logic.{_⊎_, inl, inr}
+use mathlib.Core.Path.{_≡_, sym, ap, _∙_}
+use mathlib.Core.Bool.{Bool, true, cond, not, _&&_, _||_}
+use mathlib.Core.Logic.{inl, inr}
 use native.Mathlib.Omega.{arith}
 use lib.Dec.{leb, ltb, eqb}
 use Rattle.std.proofs.shelf.Tests.{and-parts, and-from, or-cases, or-left, or-right, cases-bool, cases-lt, cases-eq, cases-order, cond-true, cond-false, ne-eqb, ltb-true, eqb-false, both-ways, leb-true, le-leb, eqb-true, eq-eqb, not-true, not-from-false}
@@ -12,7 +12,7 @@ use Rattle.fairness.specs.Laws.{Comparison, Lawful, atMost}
 use Rattle.fairness.specs.Levels.{shareWith, shareOf, Fairest, Countable}
 use Rattle.fairness.specs.Routes.{Route, shouldGain}
 use Rattle.fairness.specs.Settled.{Safe}
-use Rattle.fairness.specs.Decision.{isFeasible, layer, isSafe, isFairest, Fairest-decided, countAt, sameCounts, withTotal, allNear, isOnly, isRoute}
+use Rattle.fairness.specs.Decision.{isFeasible, layer, isSafe, Fairest-decided, countAt, sameCounts, withTotal, allNear, isOnly, isRoute}
 use Rattle.fairness.proofs.Sums.{sum-eq, all-from, all-has}
 use Rattle.fairness.proofs.Rules.{on-board-laws, on-board-rising}
 use Rattle.fairness.proofs.Levels.{cmp, fairest-on}

@@ -1,23 +1,18 @@
 -- A fairest plan is settled.
-use Prim.Native.Nat.{ℕ, zero, suc, _+_, _-_, _*_, _≤_, _<_}
-use mathlib.Core.Path.{_≡_, refl, sym, ap, _∙_}
-use mathlib.Core.Bool.{Bool, true, false, cond, not, _&&_, _||_}
-use mathlib.Core.Logic.{_⊎_, inl, inr}
+use Prim.Native.Nat.{ℕ, suc, _+_, _-_, _≤_, _<_}
+use mathlib.Core.Path.{_≡_, refl, sym}
+use mathlib.Core.Bool.{true}
+use mathlib.Core.Logic.{inl, inr}
 use native.Mathlib.Omega.{arith}
-use lib.Dec.{leb, ltb, eqb}
-use Rattle.std.proofs.shelf.Tests.{cases-eq, cases-lt, cases-bool, eqb-true, eq-eqb, ne-eqb, cond-true, cond-false}
-use Rattle.fairness.specs.Sums.{sumTo, someTo}
-use Rattle.fairness.specs.Plans.{given, total, Feasible}
-use Rattle.fairness.specs.Settled.{Closed}
-use Rattle.fairness.proofs.Steps.{Capped}
-use Rattle.fairness.proofs.Orders.{Compare, Laws, Rising, Fairer, Fairest, gains, Safe, Settled}
+use Rattle.std.proofs.shelf.Tests.{cases-eq, cases-lt, cases-bool, ne-eqb}
+use Rattle.fairness.specs.Plans.{given, total}
+use Rattle.fairness.proofs.Orders.{Compare, Laws, Rising, Fairest, gains, Settled}
 use Rattle.fairness.specs.declared.Rank.the-variants.{Below}
-use Rattle.fairness.proofs.Sums.{sum-at}
-use Rattle.fairness.proofs.Settled.{step, step-falls, gains-lt, height, settled-within-one}
-use Rattle.fairness.specs.Moves.{same, slotAt}
+use Rattle.fairness.proofs.Settled.{settled-within-one}
+use Rattle.fairness.specs.Moves.{same}
 use Rattle.fairness.proofs.Moves.{take, taken-total, taken-feasible, same-self, same-other}
 use Rattle.fairness.specs.Decision.{layer}
-use Rattle.fairness.proofs.Reach.{Fresh, layer-own, layer-next, stable, first, apart, Kept, walk}
+use Rattle.fairness.proofs.Reach.{Fresh, layer-own, layer-next, stable, first, apart, walk}
 use Rattle.fairness.proofs.Gains.{gain-fairer, free-fairer}
 
 -- a task gains nothing from itself

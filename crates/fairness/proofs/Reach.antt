@@ -1,17 +1,16 @@
 -- The tasks that are reached from p by residual steps, in layers, and the exchange along a way of them.
-use Prim.Native.Nat.{ℕ, zero, suc, _+_, _-_, _*_, _≤_, _<_}
-use mathlib.Core.Path.{_≡_, refl, sym, ap, _∙_}
-use mathlib.Core.Bool.{Bool, true, false, cond, not, _&&_, _||_}
+use Prim.Native.Nat.{ℕ, zero, suc, _+_, _≤_, _<_}
+use mathlib.Core.Path.{_≡_, refl, ap}
+use mathlib.Core.Bool.{true, false, cond, not, _&&_}
 use mathlib.Core.Logic.{_⊎_, inl, inr}
 use native.Mathlib.Omega.{arith}
-use lib.Dec.{leb, ltb, eqb}
-use Rattle.std.proofs.shelf.Tests.{cases-eq, cases-lt, cases-bool, eqb-true, eqb-false, eq-eqb, ne-eqb, both-ways, not-true, and-parts, and-from, or-cases, or-left, or-right, or-parts, lt-ltb, ltb-true}
-use Rattle.fairness.specs.Sums.{sumTo, someTo}
-use Rattle.fairness.specs.Plans.{given, total, Feasible}
-use Rattle.fairness.specs.Settled.{Closed}
-use Rattle.fairness.proofs.Sums.{sum-lt, sum-le, count-le, some-cases, first-cases, some-from, some-has}
+use lib.Dec.{ltb}
+use Rattle.std.proofs.shelf.Tests.{cases-bool, eqb-true, eq-eqb, ne-eqb, both-ways, and-parts, and-from, or-cases, or-left, or-right, lt-ltb, ltb-true}
+use Rattle.fairness.specs.Sums.{sumTo}
+use Rattle.fairness.specs.Plans.{total, Feasible}
+use Rattle.fairness.proofs.Sums.{sum-lt, count-le, some-cases, first-cases, some-from, some-has}
 use Rattle.fairness.specs.Decision.{leads, layer}
-use Rattle.fairness.specs.Moves.{same, slotAt}
+use Rattle.fairness.specs.Moves.{same}
 use Rattle.fairness.proofs.Moves.{move, move-moves, moved-total, moved-feasible}
 
 -- at just L steps

@@ -1,13 +1,13 @@
 -- Laws of sums, over all indices below a bound and over a set of them.
-use Prim.Native.Nat.{ℕ, zero, suc, _+_, _-_, _*_, _≤_, _<_}
-use mathlib.Core.Path.{_≡_, refl, sym, ap, _∙_}
+use Prim.Native.Nat.{ℕ, zero, suc, _+_, _*_, _≤_, _<_}
+use mathlib.Core.Path.{_≡_, refl, sym, _∙_}
 use mathlib.Core.Bool.{Bool, true, false, cond}
 use mathlib.Core.Logic.{_⊎_, inl, inr}
 use native.Mathlib.Omega.{arith}
 use native.Mathlib.Numerals.{add-one}
-use mathlib.Core.Bool.{not, _&&_, _||_}
-use lib.Dec.{leb, ltb, eqb}
-use Rattle.std.proofs.shelf.Tests.{cases-bool, cases-lt, cases-eq, or-cases, false≢true, cond-true, cond-false, eq-eqb, ne-eqb, and-from, and-parts}
+use mathlib.Core.Bool.{not}
+use lib.Dec.{eqb}
+use Rattle.std.proofs.shelf.Tests.{cases-bool, cases-eq, or-cases, false≢true, cond-true, cond-false, eq-eqb, ne-eqb, and-from, and-parts}
 use Rattle.fairness.specs.Sums.{sumTo, allTo, someTo}
 
 -- the sum over the indices below n that stand in the set r

@@ -1,17 +1,14 @@
 -- The statements on fairest plans, from the theory on boards with caps.
-use Prim.Native.Nat.{ℕ, zero, suc, _+_, _-_, _≤_, _<_}
+use Prim.Native.Nat.{ℕ, _-_, _<_}
 use mathlib.Core.Path.{_≡_, refl, sym, ap, _∙_}
-use mathlib.Core.Bool.{Bool, true, false}
-use mathlib.Core.Logic.{_⊎_, inl, inr}
+use mathlib.Core.Bool.{true}
+use mathlib.Core.Logic.{inl, inr}
 use native.Mathlib.Omega.{arith}
-use lib.Dec.{eqb}
-use Rattle.std.proofs.shelf.Tests.{cases-bool, cases-eq, cases-lt, eqb-true}
-use Rattle.fairness.specs.Sums.{sumTo}
+use Rattle.std.proofs.shelf.Tests.{cases-bool, cases-eq, cases-lt}
 use Rattle.fairness.specs.Plans.{Plan, given, total, Feasible}
 use Rattle.fairness.specs.Laws.{Comparison, Lawful}
-use Rattle.fairness.specs.Levels.{Fairer, Fairest, SameLevels, Countable, shareOf}
-use Rattle.fairness.specs.Moves.{same}
-use Rattle.fairness.specs.Routes.{Route, Exchanged, FreeSlotTaken, FairExchange, shouldGain}
+use Rattle.fairness.specs.Levels.{Fairer, Countable, shareOf}
+use Rattle.fairness.specs.Routes.{shouldGain}
 use Rattle.fairness.specs.Settled.{Settled, NoneFree, NoFairerRoute}
 use Rattle.fairness.specs.Theorems.{Settled-fairest, Fairest-settled, Free-slot-fairer, Exchange-fairer, Fairest-exactly, Fairest-same-levels, Fairest-within-one, Levelling-ends}
 use Rattle.fairness.proofs.Orders as on
@@ -27,7 +24,7 @@ use Rattle.fairness.proofs.Pot.{pot, pot-falls}
 use Rattle.fairness.specs.Decision.{layer}
 use Rattle.fairness.proofs.Reach.{layer-own, layer-next, stable, first, Fresh}
 use Rattle.fairness.proofs.Routes.{exchange, exchange-exchanged, exchange-total, exchange-feasible}
-use Rattle.fairness.proofs.Ways.{Way, way, way-route}
+use Rattle.fairness.proofs.Ways.{way, way-route}
 
 pub settled-is-fairest : Settled-fairest
 settled-is-fairest compare lawful n m need capacity few held feasible settled =

@@ -1,11 +1,11 @@
 -- Computations that tell whether a plan is fairest, whether other totals are, and whether steps make a route.
-use Prim.Native.Nat.{ℕ, zero, suc, _-_, _<_}
+use Prim.Native.Nat.{ℕ, zero, suc, _-_}
 use mathlib.Core.Path.{_≡_}
 use mathlib.Core.Bool.{Bool, true, false, cond, not, _&&_, _||_}
 use lib.Dec.{leb, ltb, eqb}
 use Rattle.fairness.specs.declared.Share.{Share}
 use Rattle.fairness.specs.Sums.{sumTo, allTo, someTo}
-use Rattle.fairness.specs.Plans.{Plan, given, total, Feasible}
+use Rattle.fairness.specs.Plans.{Plan, given, total}
 use Rattle.fairness.specs.Laws.{Comparison, Lawful, atMost}
 use Rattle.fairness.specs.Levels.{shareWith, shareOf, Fairest, Countable}
 use Rattle.fairness.specs.Routes.{shouldGain}

@@ -1,12 +1,12 @@
 -- The worked plans, by computation.
-use Prim.Native.Nat.{ℕ, _<_}
 use mathlib.Core.Path.{_≡_, refl}
-use mathlib.Core.Bool.{Bool, true, _&&_}
+use mathlib.Core.Bool.{Bool, true}
 use mathlib.Core.List.{List, [], _∷_}
-use lib.Dec.{leb, eqb}
+use lib.Dec.{leb}
 use lib.ListN.{length}
 use Rattle.std.proofs.shelf.Tests.{and-parts, not-true, leb-true, eqb-true}
 use Rattle.fairness.specs.Plans.{Plan, total}
+use Rattle.fairness.specs.Laws.{mostCounted}
 use Rattle.fairness.specs.Levels.{Countable}
 use Rattle.fairness.specs.Decision.{layer, isFeasible, isFairest, isOnly, isRoute}
 use Rattle.fairness.proofs.Sums.{all-has}
@@ -45,7 +45,7 @@ tested-holds e few held (claims.fairer-route along through) h =
 example-agrees : (e : Example) → agrees e ≡ true → Agrees e
 example-agrees e h =
     let x = and-parts _ (every (λ plan. every (tested e (table (plan .slots))) (plan .claims)) (e .plans)) h in
-    let few : Countable (tasks e) (cores e) (need e) = λ task l. leb-true _ _ (all-has (tasks e) (λ task. leb (total (cores e) (need e) task) 16000) (x .0) task l) in
+    let few : Countable (tasks e) (cores e) (need e) = λ task l. leb-true _ _ (all-has (tasks e) (λ task. leb (total (cores e) (need e) task) mostCounted) (x .0) task l) in
     every-from _ _ (λ plan g. every-from _ _ (λ claim. tested-holds e few (table (plan .slots)) claim) (plan .claims) g) (e .plans) (x .1)
 
 all-tested : every agrees examples ≡ true

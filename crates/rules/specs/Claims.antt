@@ -7,7 +7,7 @@ use lib.Dec.{leb, eqb}
 use lib.ListN.{length, getD}
 use Rattle.fairness.specs.Sums.{sumTo, allTo}
 use Rattle.fairness.specs.Plans.{Plan, given, total}
-use Rattle.fairness.specs.Laws.{Comparison, Lawful}
+use Rattle.fairness.specs.Laws.{Comparison, Lawful, mostCounted}
 use Rattle.fairness.specs.Levels.{Fairer, Fairest, shareOf}
 use Rattle.fairness.specs.Routes.{Route, Exchanged, shouldGain}
 use Rattle.fairness.specs.Decision.{isFeasible, isFairest, isOnly, isRoute}
@@ -94,5 +94,5 @@ Agrees e = Every (λ plan. Every (Holds e (table (plan .slots))) (plan .claims))
 
 abbrev pub agrees : Example → Bool
 agrees e =
-    allTo (tasks e) (λ task. leb (total (cores e) (need e) task) 16000)
+    allTo (tasks e) (λ task. leb (total (cores e) (need e) task) mostCounted)
     && every (λ plan. every (tested e (table (plan .slots))) (plan .claims)) (e .plans)

@@ -1,6 +1,5 @@
 -- No feasible plan gives a task more than its whole need.
-use Prim.Native.Nat.{ℕ, _≤_, _<_}
-use Rattle.fairness.specs.Sums.{sumTo}
+use Prim.Native.Nat.{ℕ}
 use Rattle.fairness.specs.Plans.{Plan, total, Feasible}
 use Rattle.fairness.proofs.Sums.{sum-le}
 use Rattle.fairness.proofs.Steps.{Capped}

@@ -1,16 +1,15 @@
 -- Threshold counting, and the layer sum.
-use Prim.Native.Nat.{ℕ, zero, suc, _+_, _-_, _*_, _≤_, _<_, min}
-use mathlib.Core.Path.{_≡_, refl, sym, ap, _∙_}
-use mathlib.Core.Bool.{Bool, true, false, cond, not, _&&_}
-use mathlib.Core.Logic.{_⊎_, inl, inr}
+use Prim.Native.Nat.{ℕ, zero, suc, _-_, _≤_, _<_, min}
+use mathlib.Core.Path.{_≡_, refl, _∙_}
+use mathlib.Core.Bool.{Bool, true, false, cond, not}
+use mathlib.Core.Logic.{inl, inr}
 use native.Mathlib.Omega.{arith}
-use lib.Dec.{leb, ltb}
-use Rattle.std.proofs.shelf.Tests.{and-parts, and-from, lt-ltb, ltb-true, cases-lt, both-ways, not-true, cases-eq}
+use lib.Dec.{ltb}
+use Rattle.std.proofs.shelf.Tests.{cases-lt, both-ways, not-true}
 use Rattle.fairness.specs.Sums.{sumTo}
-use Rattle.fairness.specs.Plans.{given, total, Feasible}
-use Rattle.fairness.specs.Settled.{Closed}
+use Rattle.fairness.specs.Plans.{total, Feasible}
 use Rattle.fairness.proofs.Steps.{Capped, Falling, Held, worth}
-use Rattle.fairness.proofs.Sums.{sumIn, someTo, sum-le, sum-eq, sum-at, sum-split, sum-swap, in-le, some-has, some-from}
+use Rattle.fairness.proofs.Sums.{sumIn, sum-le, sum-eq, sum-at, sum-split, sum-swap, in-le}
 use Rattle.fairness.proofs.Tight.{tight}
 use Rattle.fairness.proofs.Fronts.{falls, front-closed, front-own, front-last}
 

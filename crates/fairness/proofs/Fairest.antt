@@ -1,22 +1,18 @@
 -- A fairest plan is settled.
-use Prim.Native.Nat.{ℕ, zero, suc, _+_, _-_, _*_, _≤_, _<_}
-use mathlib.Core.Path.{_≡_, refl, sym, ap, _∙_}
-use mathlib.Core.Bool.{Bool, true, false, cond, not, _&&_, _||_}
-use mathlib.Core.Logic.{_⊎_, inl, inr}
+use Prim.Native.Nat.{ℕ, suc, _+_, _-_, _≤_, _<_}
+use mathlib.Core.Path.{_≡_, refl, sym}
+use mathlib.Core.Bool.{true}
+use mathlib.Core.Logic.{inl, inr}
 use native.Mathlib.Omega.{arith}
-use lib.Dec.{leb, ltb, eqb}
-use Rattle.std.proofs.shelf.Tests.{cases-eq, cases-lt, cases-bool, eqb-true, eq-eqb, ne-eqb, cond-true, cond-false}
-use Rattle.fairness.specs.Sums.{sumTo}
-use Rattle.fairness.specs.Plans.{given, total, Feasible}
-use Rattle.fairness.specs.Settled.{Closed}
-use Rattle.fairness.proofs.Steps.{Capped}
-use Rattle.fairness.proofs.Orders.{Compare, Laws, Rising, Fairer, Fairest, gains, Safe, Settled}
+use Rattle.std.proofs.shelf.Tests.{cases-eq, cases-lt, cases-bool, ne-eqb}
+use Rattle.fairness.specs.Plans.{given, total}
+use Rattle.fairness.proofs.Orders.{Compare, Laws, Rising, Fairest, gains, Settled}
 use Rattle.fairness.specs.declared.Rank.the-variants.{Below}
-use Rattle.fairness.proofs.Sums.{someTo, sum-at}
-use Rattle.fairness.proofs.Settled.{step, step-falls, gains-lt, height, settled-within-one}
-use Rattle.fairness.specs.Moves.{same, slotAt}
+use Rattle.fairness.proofs.Settled.{settled-within-one}
+use Rattle.fairness.specs.Moves.{same}
 use Rattle.fairness.proofs.Moves.{take, taken-total, taken-feasible, same-self, same-other}
-use Rattle.fairness.proofs.Reach.{layer, Fresh, layer-own, layer-next, stable, first, apart, Kept, walk}
+use Rattle.fairness.specs.Decision.{layer}
+use Rattle.fairness.proofs.Reach.{Fresh, layer-own, layer-next, stable, first, apart, walk}
 use Rattle.fairness.proofs.Gains.{gain-fairer, free-fairer}
 
 -- a task gains nothing from itself
@@ -70,19 +66,18 @@ pub fairest-settled :
     (cmp : Compare) → Laws cmp → (n m : ℕ) (d : ℕ → ℕ → ℕ) (c cap : ℕ → ℕ) → Rising cmp n cap → (a : ℕ → ℕ → ℕ)
     → Fairest cmp n m d c cap a → Settled cmp n m d c cap a
 fairest-settled cmp laws n m d c cap up a fair p pl lo =
-    let st = stable n m d a p in
     record {
-      set = layer n m d a p (st .0);
+      set = layer n m d a p n;
       closed = record {
         full = λ i j il jl x less. elim (cases-lt (given n a j) (c j)) [
-          | inl free ↦ let f = first n m d a p (st .0) i x in absurd (no-free cmp laws n m d c cap up a fair p pl lo (f .0) i j il jl (f .1) less free)
+          | inl free ↦ let f = first n m d a p n i x in absurd (no-free cmp laws n m d c cap up a fair p pl lo (f .0) i j il jl (f .1) less free)
           | inr y ↦ y
         ];
-        inside = λ i j k il jl kl x less pos. st .1 k kl (layer-next n m d a p (st .0) i j k il jl x less pos);
+        inside = λ i j k il jl kl x less pos. stable n m d a p k kl (layer-next n m d a p n i j k il jl x less pos);
       };
-      own = layer-own n m d a p (st .0);
+      own = layer-own n m d a p n;
       fails = λ q ql x pos. elim (cases-bool (gains cmp p (total m a p) q (total m a q))) [
-        | inl g ↦ let f = first n m d a p (st .0) q x in absurd (no-gain cmp laws n m d c cap up a fair p pl lo (f .0) q ql (f .1) pos g)
+        | inl g ↦ let f = first n m d a p n q x in absurd (no-gain cmp laws n m d c cap up a fair p pl lo (f .0) q ql (f .1) pos g)
         | inr g ↦ g
       ];
     }

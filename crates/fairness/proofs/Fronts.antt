@@ -1,15 +1,16 @@
 -- The union of the closed sets of the tasks whose next step is worth at least v.
-use Prim.Native.Nat.{ℕ, zero, suc, _+_, _-_, _*_, _≤_, _<_, min}
-use mathlib.Core.Path.{_≡_, refl, sym, ap, _∙_}
-use mathlib.Core.Bool.{Bool, true, false, cond, not, _&&_}
-use mathlib.Core.Logic.{_⊎_, inl, inr}
+use Prim.Native.Nat.{ℕ, zero, suc, _-_, _≤_, _<_}
+use mathlib.Core.Path.{_≡_}
+use mathlib.Core.Bool.{Bool, true, _&&_}
+use mathlib.Core.Logic.{inl, inr}
 use native.Mathlib.Omega.{arith}
 use lib.Dec.{leb, ltb}
 use Rattle.std.proofs.shelf.Tests.{and-parts, and-from, lt-ltb, ltb-true, leb-true, le-leb, cases-lt}
 use Rattle.fairness.specs.Plans.{total}
 use Rattle.fairness.specs.Settled.{Closed}
 use Rattle.fairness.proofs.Steps.{Falling, Held}
-use Rattle.fairness.proofs.Sums.{someTo, some-has, some-from}
+use Rattle.fairness.specs.Sums.{someTo}
+use Rattle.fairness.proofs.Sums.{some-has, some-from}
 use Rattle.fairness.proofs.Tight.{closed-union}
 
 pub falls : (n : ℕ) (cap : ℕ → ℕ) (g : ℕ → ℕ → ℕ) → Falling n cap g → (i k l : ℕ) → i < n → k ≤ l → l < cap i → g i l ≤ g i k

@@ -1,10 +1,9 @@
 -- An exchange for which the test holds is fairer, and so is a free slot taken.
-use Prim.Native.Nat.{ℕ, zero, suc, _+_, _-_, _*_, _≤_, _<_}
-use mathlib.Core.Path.{_≡_, refl, sym, ap, _∙_}
-use mathlib.Core.Bool.{Bool, true, false, cond, not, _&&_, _||_}
-use mathlib.Core.Logic.{_⊎_, inl, inr}
+use Prim.Native.Nat.{ℕ, suc, _+_, _-_, _≤_, _<_}
+use mathlib.Core.Path.{_≡_, ap}
+use mathlib.Core.Bool.{true}
+use mathlib.Core.Logic.{inl, inr}
 use native.Mathlib.Omega.{arith}
-use lib.Dec.{leb, ltb, eqb}
 use Rattle.std.proofs.shelf.Tests.{cases-eq}
 use Rattle.fairness.specs.Sums.{sumTo}
 use Rattle.fairness.proofs.Orders.{Compare, Laws, Rising, Fairer, gains}

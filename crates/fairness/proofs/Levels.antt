@@ -1,9 +1,9 @@
 -- The definitions over shares, and the same ones on a board with caps: where each task's cap is its whole need, they agree.
-use Prim.Native.Nat.{ℕ, _≤_, _<_}
-use Rattle.fairness.specs.Plans.{Plan, total, Feasible}
+use Prim.Native.Nat.{ℕ}
+use Rattle.fairness.specs.Plans.{Plan, total}
 use Rattle.fairness.specs.Laws.{Comparison}
 use Rattle.fairness.specs.Levels.{Fairer, Fairest}
-use Rattle.fairness.specs.Settled.{Safe, Settled}
+use Rattle.fairness.specs.Settled.{Settled}
 use Rattle.fairness.proofs.Orders as on
 use Rattle.fairness.proofs.Boards.{capped-whole}
 

@@ -1,22 +1,20 @@
 -- Under the even rule, fairer is the same as a greater sorted list.
-use Prim.Native.Nat.{ℕ, zero, suc, _+_, _≤_, _<_, min}
-use mathlib.Core.Path.{_≡_, refl, sym, ap, _∙_}
-use mathlib.Core.Bool.{Bool, true, false, cond, not}
+use Prim.Native.Nat.{ℕ, _≤_, _<_}
+use mathlib.Core.Path.{_≡_, sym, ap, _∙_}
+use mathlib.Core.Bool.{cond, not}
 use mathlib.Core.Logic.{_⊎_, inl, inr}
 use native.Mathlib.Omega.{arith}
 use lib.Dec.{leb, eqb}
-use lib.ListN.{length, getD}
+use lib.ListN.{getD}
 use Rattle.std.proofs.shelf.Tests.{cases-lt, cases-order, eqb-true, eqb-false, not-true, not-false}
 use Rattle.fairness.specs.declared.Rank.the-variants.{Below}
-use Rattle.fairness.specs.Sums.{sumTo}
 use Rattle.fairness.specs.Plans.{Plan, total, Feasible}
-use Rattle.fairness.specs.Laws.{atMost}
-use Rattle.fairness.specs.Levels.{atOrBelow, levelAt, Fairer, Fairest, Countable}
+use Rattle.fairness.specs.Laws.{atMost, mostCounted}
+use Rattle.fairness.specs.Levels.{atOrBelow, levelAt, Fairer, Countable}
 use Rattle.fairness.specs.Even.{even, standing, counted}
-use Rattle.fairness.specs.Lexicographic.{sorted, Smaller, Equal, LexicographicallyFair, Even-lexicographic}
+use Rattle.fairness.specs.Lexicographic.{sorted, Smaller, Equal, Even-lexicographic}
 use Rattle.fairness.proofs.Sums.{sum-eq, first-cases}
 use Rattle.fairness.proofs.Numbers.{upTo, upTo-le, had-at}
-use Rattle.fairness.proofs.Standings.{greater-above}
 use Rattle.fairness.proofs.Boards.{capped-whole}
 use Rattle.fairness.proofs.Sorting.{sorted-length, sorted-from, sorted-to}
 
@@ -110,7 +108,7 @@ at-most-leb : (x y : ℕ) → atMost (standing x y) ≡ leb x y
 at-most-leb x y = grind arith
 
 module _ (n m : ℕ) (need : Plan) (capacity : ℕ → ℕ) (few : Countable n m need) where
-  low : (held : Plan) → Feasible n m need capacity held → (i : ℕ) → i < n → total m held i ≤ 16000
+  low : (held : Plan) → Feasible n m need capacity held → (i : ℕ) → i < n → total m held i ≤ mostCounted
   low held f i l = omega (arith, few i l, capped-whole n m need capacity held f i l)
 
   even-counts : (held : Plan) → Feasible n m need capacity held → (task slots : ℕ)
@@ -124,7 +122,7 @@ module _ (n m : ℕ) (need : Plan) (capacity : ℕ → ℕ) (few : Countable n m
   module _ (first second : Plan) (fine : Feasible n m need capacity first) (also : Feasible n m need capacity second) where
     even-fewer : Fairer even n m need first second → FewerAt n (total m first) (total m second)
     even-fewer f =
-        let small : f .slots ≤ 16000 = elim (f .had) [ inl e ↦ omega (arith, low first fine (f .task) (f .known)) | inr e ↦ omega (arith, low second also (f .task) (f .known)) ] in
+        let small : f .slots ≤ mostCounted = elim (f .had) [ inl e ↦ omega (arith, low first fine (f .task) (f .known)) | inr e ↦ omega (arith, low second also (f .task) (f .known)) ] in
         let exact : counted (f .slots) ≡ f .slots = omega arith in
         let less : upTo n (total m first) (counted (f .slots)) < upTo n (total m second) (counted (f .slots)) =
             omega (arith, f .fewer, even-counts first fine (f .task) (f .slots), even-counts second also (f .task) (f .slots)) in
@@ -146,7 +144,7 @@ module _ (n m : ℕ) (need : Plan) (capacity : ℕ → ℕ) (few : Countable n m
     fewer-even : FewerAt n (total m first) (total m second) → Fairer even n m need first second
     fewer-even f =
         let i = had-at n (total m first) (total m second) (f .number) (λ e. omega (arith, f .fewer)) (f .lower) in
-        let small : f .number ≤ 16000 = elim (i .2) [ inl e ↦ omega (arith, low first fine (i .0) (i .1)) | inr e ↦ omega (arith, low second also (i .0) (i .1)) ] in
+        let small : f .number ≤ mostCounted = elim (i .2) [ inl e ↦ omega (arith, low first fine (i .0) (i .1)) | inr e ↦ omega (arith, low second also (i .0) (i .1)) ] in
         let exact : counted (f .number) ≡ f .number = omega arith in
         record {
           task = i .0;

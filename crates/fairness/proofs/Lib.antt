@@ -22,3 +22,4 @@ pub mod Levels
 pub mod Theorems
 pub mod Sorting
 pub mod Lexicographic
+pub mod Decision

@@ -1,14 +1,14 @@
 -- Counts at or below each rank, and the number that has them for digits.
 use Prim.Native.Nat.{ℕ, zero, suc, _+_, _-_, _*_, _≤_, _<_}
-use mathlib.Core.Path.{_≡_, refl, sym, ap, _∙_}
-use mathlib.Core.Bool.{Bool, true, false, cond, not, _&&_, _||_}
+use mathlib.Core.Path.{_≡_, refl, sym, ap}
+use mathlib.Core.Bool.{cond, _||_}
 use mathlib.Core.Logic.{_⊎_, inl, inr}
 use native.Mathlib.Omega.{arith}
 use native.Mathlib.Nat.{mul-le-mul-left}
 use lib.Dec.{leb, ltb, eqb}
-use Rattle.std.proofs.shelf.Tests.{cases-lt, cases-eq, cases-bool, cases-order, eqb-true, eqb-false, eq-eqb, ne-eqb, or-cases, or-parts, not-true, not-false, not-from-true}
+use Rattle.std.proofs.shelf.Tests.{cases-lt, eqb-true, eqb-false, or-cases, or-parts}
 use Rattle.fairness.specs.Sums.{sumTo}
-use Rattle.fairness.proofs.Sums.{sum-le, sum-eq, sum-add, sum-mul, sum-zero, count-le, some-cases, first-cases}
+use Rattle.fairness.proofs.Sums.{sum-eq, sum-add, sum-mul, sum-zero, count-le, some-cases}
 
 -- the tasks whose rank is at most r
 abbrev pub upTo : ℕ → (ℕ → ℕ) → ℕ → ℕ

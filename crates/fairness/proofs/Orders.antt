@@ -1,15 +1,15 @@
 -- Levels on one board, with a cap on each task's total: a level is a task and a total, and `cmp i x k y` says where (i, x) stands, seen from (k, y).
-use Prim.Native.Nat.{ℕ, suc, _-_, _≤_, _<_}
+use Prim.Native.Nat.{ℕ, suc, _-_, _<_}
 use mathlib.Core.Path.{_≡_}
 use mathlib.Core.Bool.{Bool, true, false, cond, _&&_, _||_}
 use mathlib.Core.Logic.{_⊎_}
-use Rattle.fairness.specs.declared.Share.{Share}
 use Rattle.fairness.specs.declared.Rank.{Rank}
 use Rattle.fairness.specs.declared.Rank.the-variants.{Below}
 use Rattle.fairness.specs.Sums.{sumTo}
 use Rattle.fairness.specs.Plans.{total, Feasible}
 use Rattle.fairness.specs.Levels.{shareWith}
-use Rattle.fairness.specs.Laws.{Comparison, mirror, atMost, isBelow, isLevel}
+use Rattle.fairness.specs.Laws.{Comparison, mirror, atMost}
+use Rattle.fairness.specs.Routes.{worthwhile}
 use Rattle.fairness.specs.Settled.{Closed}
 use Rattle.fairness.proofs.Steps.{Capped}
 
@@ -57,7 +57,7 @@ pub record Fairest (cmp : Compare) (n m : ℕ) (d : ℕ → ℕ → ℕ) (c cap 
 
 -- p at the total x should gain a slot from q, which has y
 abbrev pub gains : Compare → ℕ → ℕ → ℕ → ℕ → Bool
-gains cmp p x q y = isBelow (cmp p x q (y - 1)) || (isLevel (cmp p x q (y - 1)) && isBelow (cmp q y p (suc x)))
+gains cmp p x q y = worthwhile (cmp p x q (y - 1)) (cmp q y p (suc x))
 
 -- a closed set with p in it, from which p should gain nothing: what a search from p that finds nothing leaves
 pub record Safe (cmp : Compare) (n m : ℕ) (d : ℕ → ℕ → ℕ) (c : ℕ → ℕ) (a : ℕ → ℕ → ℕ) (p : ℕ) : Type 0 where

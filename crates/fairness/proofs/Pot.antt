@@ -1,19 +1,16 @@
 -- A number that falls exactly where a plan gets fairer.
-use Prim.Native.Nat.{ℕ, zero, suc, _+_, _-_, _*_, _≤_, _<_}
+use Prim.Native.Nat.{ℕ, suc, _+_, _<_}
 use mathlib.Core.Path.{_≡_, refl, sym, ap, _∙_}
-use mathlib.Core.Bool.{Bool, true, false, cond, not, _&&_, _||_}
+use mathlib.Core.Bool.{not}
 use mathlib.Core.Logic.{_⊎_, inl, inr}
 use native.Mathlib.Omega.{arith}
-use native.Mathlib.Nat.{mul-le-mul-left}
-use lib.Dec.{leb, ltb, eqb}
-use Rattle.std.proofs.shelf.Tests.{cases-lt, cases-order, cases-eq, cases-bool, both-ways, eqb-true, eqb-false, not-true, not-false}
+use lib.Dec.{eqb}
+use Rattle.std.proofs.shelf.Tests.{cases-order, eqb-true, eqb-false, not-true, not-false}
 use Rattle.fairness.specs.Sums.{sumTo}
 use Rattle.fairness.proofs.Orders.{Compare, Laws, atOrBelow, Fairer, Fairer-had}
-use Rattle.fairness.specs.declared.Rank.{Rank}
-use Rattle.fairness.specs.declared.Rank.the-variants.{Below}
 use Rattle.fairness.proofs.Sums.{first-cases, sum-at}
 use Rattle.fairness.proofs.Numbers.{upTo, upTo-le, had-at, digits, digits-eq, digits-lt}
-use Rattle.fairness.proofs.Ranks.{rank, rank-keeps, rank-tells, rank-below, below-rank, counts, top, rank-top}
+use Rattle.fairness.proofs.Ranks.{rank, rank-below, below-rank, counts, top, rank-top}
 
 abbrev pub ranks : Compare → ℕ → ℕ → (ℕ → ℕ) → ℕ → ℕ
 ranks cmp n h t i = rank cmp n h i (t i)

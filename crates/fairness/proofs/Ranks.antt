@@ -1,18 +1,14 @@
 -- Levels as numbers: the rank of a level.
-use Prim.Native.Nat.{ℕ, zero, suc, _+_, _-_, _*_, _≤_, _<_}
-use mathlib.Core.Path.{_≡_, refl, sym, ap, _∙_}
-use mathlib.Core.Bool.{Bool, true, false, cond, not, _&&_, _||_}
-use mathlib.Core.Logic.{_⊎_, inl, inr}
+use Prim.Native.Nat.{ℕ, suc, _≤_, _<_}
+use mathlib.Core.Path.{_≡_}
+use mathlib.Core.Bool.{true, false}
 use native.Mathlib.Omega.{arith}
-use native.Mathlib.Nat.{mul-le-mul-left}
-use lib.Dec.{leb, ltb, eqb}
-use Rattle.std.proofs.shelf.Tests.{cases-lt, cases-eq, cases-bool, both-ways}
 use Rattle.fairness.specs.Sums.{sumTo}
-use Rattle.fairness.specs.Laws.{mirror, atMost, isBelow, isLevel}
-use Rattle.fairness.proofs.Orders.{Compare, Laws, atOrBelow, Fairer}
+use Rattle.fairness.specs.Laws.{atMost}
+use Rattle.fairness.proofs.Orders.{Compare, Laws, atOrBelow}
 use Rattle.fairness.specs.declared.Rank.{Rank}
 use Rattle.fairness.specs.declared.Rank.the-variants.{Below, Level, Above}
-use Rattle.fairness.proofs.Sums.{sum-le, sum-lt, sum-eq, sum-at}
+use Rattle.fairness.proofs.Sums.{sum-le, sum-lt, sum-eq}
 use Rattle.fairness.proofs.Numbers.{upTo}
 
 -- one for a level below, and one for a level at or below: 2, 1 or 0

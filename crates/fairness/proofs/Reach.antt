@@ -1,26 +1,17 @@
 -- The tasks that are reached from p by residual steps, in layers, and the exchange along a way of them.
-use Prim.Native.Nat.{ℕ, zero, suc, _+_, _-_, _*_, _≤_, _<_}
-use mathlib.Core.Path.{_≡_, refl, sym, ap, _∙_}
-use mathlib.Core.Bool.{Bool, true, false, cond, not, _&&_, _||_}
+use Prim.Native.Nat.{ℕ, zero, suc, _+_, _≤_, _<_}
+use mathlib.Core.Path.{_≡_, refl, ap}
+use mathlib.Core.Bool.{true, false, cond, not, _&&_}
 use mathlib.Core.Logic.{_⊎_, inl, inr}
 use native.Mathlib.Omega.{arith}
-use lib.Dec.{leb, ltb, eqb}
-use Rattle.std.proofs.shelf.Tests.{cases-eq, cases-lt, cases-bool, eqb-true, eqb-false, eq-eqb, ne-eqb, both-ways, not-true, and-parts, and-from, or-cases, or-left, or-right, or-parts, lt-ltb, ltb-true}
+use lib.Dec.{ltb}
+use Rattle.std.proofs.shelf.Tests.{cases-bool, eqb-true, eq-eqb, ne-eqb, both-ways, and-parts, and-from, or-cases, or-left, or-right, lt-ltb, ltb-true}
 use Rattle.fairness.specs.Sums.{sumTo}
-use Rattle.fairness.specs.Plans.{given, total, Feasible}
-use Rattle.fairness.specs.Settled.{Closed}
-use Rattle.fairness.proofs.Sums.{someTo, sum-lt, sum-le, count-le, some-cases, first-cases, some-from, some-has}
-use Rattle.fairness.specs.Moves.{same, slotAt}
+use Rattle.fairness.specs.Plans.{total, Feasible}
+use Rattle.fairness.proofs.Sums.{sum-lt, count-le, some-cases, first-cases, some-from, some-has}
+use Rattle.fairness.specs.Decision.{leads, layer}
+use Rattle.fairness.specs.Moves.{same}
 use Rattle.fairness.proofs.Moves.{move, move-moves, moved-total, moved-feasible}
-
--- i still needs slots of a core of which k has some
-abbrev pub leads : ℕ → (ℕ → ℕ → ℕ) → (ℕ → ℕ → ℕ) → ℕ → ℕ → Bool
-leads m d a i k = someTo m (λ j. ltb (a i j) (d i j) && ltb 0 (a k j))
-
--- within s steps of p
-unfoldable pub layer : ℕ → ℕ → (ℕ → ℕ → ℕ) → (ℕ → ℕ → ℕ) → ℕ → ℕ → ℕ → Bool
-layer n m d a p zero k = eqb k p
-layer n m d a p (suc s) k = layer n m d a p s k || someTo n (λ i. layer n m d a p s i && leads m d a i k)
 
 -- at just L steps
 pub record Fresh (n m : ℕ) (d a : ℕ → ℕ → ℕ) (p L k : ℕ) : Type 0 where
@@ -42,11 +33,15 @@ module _ (n m : ℕ) (d a : ℕ → ℕ → ℕ) (p : ℕ) where
   layer-next s i j k u v h x y =
       or-right (layer n m d a p s k) _ (some-from n i (λ i. layer n m d a p s i && leads m d a i k) u (and-from _ _ h (some-from m j (λ j. ltb (a i j) (d i j) && ltb 0 (a k j)) v (and-from _ _ (lt-ltb _ _ x) (lt-ltb _ _ y)))))
 
+  -- no more tasks are found after s steps
+  abbrev pub Stable : ℕ → Type 0
+  Stable s = (k : ℕ) → k < n → layer n m d a p (suc s) k ≡ true → layer n m d a p s k ≡ true
+
   size : ℕ → ℕ
   size s = sumTo n (λ k. cond (layer n m d a p s k) 1 0)
 
   -- it stands, or it grows
-  grows : (s : ℕ) → ((k : ℕ) → k < n → layer n m d a p (suc s) k ≡ true → layer n m d a p s k ≡ true) ⊎ (size s < size (suc s))
+  grows : (s : ℕ) → Stable s ⊎ (size s < size (suc s))
   unfolding size
   grows s = elim (some-cases n (λ k. layer n m d a p (suc s) k && not (layer n m d a p s k))) [
     | inl h ↦ inr (sum-lt n (h .0) _ _ (h .1) (grind (arith, h .2)) (λ k l. grind (arith, layer-keeps s k)))
@@ -57,15 +52,26 @@ module _ (n m : ℕ) (d a : ℕ → ℕ → ℕ) (p : ℕ) where
   unfolding size
   size-le s = count-le n (layer n m d a p s)
 
-  stands : (s : ℕ) → ((r : ℕ) × ((k : ℕ) → k < n → layer n m d a p (suc r) k ≡ true → layer n m d a p r k ≡ true)) ⊎ (s ≤ size s)
-  stands zero = inr (omega arith)
-  stands (suc s) = elim (stands s) [
-    | inl h ↦ inl h
-    | inr h ↦ elim (grows s) [ inl g ↦ inl (s, g) | inr g ↦ inr (omega arith) ]
+  stable-next : (s : ℕ) → Stable s → Stable (suc s)
+  unfolding layer
+  stable-next s st k l h = elim (or-cases (layer n m d a p (suc s) k) _ h) [
+    | inl x ↦ x
+    | inr x ↦
+        let i = some-has n _ x in
+        let y = and-parts _ _ (i .2) in
+        or-right (layer n m d a p s k) _ (some-from n (i .0) (λ i. layer n m d a p s i && leads m d a i k) (i .1) (and-from _ _ (st (i .0) (i .1) (y .0)) (y .1)))
   ]
 
-  pub stable : (r : ℕ) × ((k : ℕ) → k < n → layer n m d a p (suc r) k ≡ true → layer n m d a p r k ≡ true)
-  stable = elim (stands (suc n)) [ inl h ↦ h | inr h ↦ absurd (omega (arith, size-le (suc n))) ]
+  stands : (s : ℕ) → Stable s ⊎ (s < size (suc s))
+  stands zero = elim (grows zero) [ inl g ↦ inl g | inr g ↦ inr (omega arith) ]
+  stands (suc s) = elim (stands s) [
+    | inl h ↦ inl (stable-next s h)
+    | inr h ↦ elim (grows (suc s)) [ inl g ↦ inl g | inr g ↦ inr (omega arith) ]
+  ]
+
+  -- n steps find all that can be reached
+  pub stable : Stable n
+  stable = elim (stands n) [ inl h ↦ h | inr h ↦ absurd (omega (arith, size-le (suc n))) ]
 
   pub first : (s k : ℕ) → layer n m d a p s k ≡ true → (L : ℕ) × Fresh n m d a p L k
   first s k h = elim (first-cases (suc s) (λ r. layer n m d a p r k)) [

@@ -1,11 +1,11 @@
 -- What an exchange along a route does to the plan.
-use Prim.Native.Nat.{ℕ, zero, suc, _+_, _-_, _≤_, _<_}
-use mathlib.Core.Path.{_≡_, refl, sym, ap, _∙_}
-use mathlib.Core.Bool.{Bool, true, false, cond, _&&_}
+use Prim.Native.Nat.{ℕ, zero, suc, _+_, _-_, _<_}
+use mathlib.Core.Path.{_≡_, refl, sym, _∙_}
+use mathlib.Core.Bool.{false, _&&_}
 use mathlib.Core.Logic.{_⊎_, inl, inr}
 use native.Mathlib.Omega.{arith}
 use lib.Dec.{eqb}
-use Rattle.std.proofs.shelf.Tests.{and-parts, eqb-true, ne-eqb, eq-eqb, cases-lt}
+use Rattle.std.proofs.shelf.Tests.{and-parts, eqb-true, ne-eqb, cases-lt}
 use Rattle.fairness.specs.Sums.{sumTo}
 use Rattle.fairness.specs.Plans.{Plan, given, total, Feasible}
 use Rattle.fairness.specs.Moves.{same, slotAt}

@@ -2,7 +2,7 @@
 use Prim.Native.Nat.{ℕ, suc, _≤_, _<_}
 use mathlib.Core.Path.{refl}
 use native.Mathlib.Omega.{arith}
-use Rattle.fairness.specs.Laws.{Comparison, Lawful}
+use Rattle.fairness.specs.Laws.{Comparison, Lawful, mostCounted}
 use Rattle.fairness.specs.Levels.{shareWith}
 use Rattle.fairness.proofs.Orders.{Laws, Rising, onBoard}
 
@@ -12,7 +12,7 @@ on-board-laws compare whole lawful = record {
   transitive = λ i x k y l z. lawful .transitive (shareWith whole i x) (shareWith whole k y) (shareWith whole l z);
 }
 
-pub on-board-rising : (compare : Comparison) (whole : ℕ → ℕ) → Lawful compare → (n : ℕ) (cap : ℕ → ℕ) → ((i : ℕ) → i < n → cap i ≤ 16000) → Rising (onBoard compare whole) n cap
+pub on-board-rising : (compare : Comparison) (whole : ℕ → ℕ) → Lawful compare → (n : ℕ) (cap : ℕ → ℕ) → ((i : ℕ) → i < n → cap i ≤ mostCounted) → Rising (onBoard compare whole) n cap
 on-board-rising compare whole lawful n cap few i x l u =
     let low = shareWith whole i x in
     let high = shareWith whole i (suc x) in

@@ -1,23 +1,24 @@
 -- A settled plan is fairest.
-use Prim.Native.Nat.{ℕ, zero, suc, _+_, _-_, _*_, _≤_, _<_}
+use Prim.Native.Nat.{ℕ, zero, suc, _+_, _-_, _≤_, _<_}
 use mathlib.Core.Path.{_≡_, refl, sym, ap, subst, _∙_}
-use mathlib.Core.Bool.{Bool, true, false, cond, not, _&&_, _||_}
+use mathlib.Core.Bool.{Bool, true, false, cond, _&&_, _||_}
 use mathlib.Core.Logic.{_⊎_, inl, inr}
 use native.Mathlib.Omega.{arith}
-use lib.Dec.{leb, ltb, eqb}
-use Rattle.std.proofs.shelf.Tests.{cases-lt, cases-order, cases-eq, cases-bool, both-ways, lt-ltb, or-parts, or-cases, and-parts, and-cases, cond-true, true≢false, false≢true}
+use lib.Dec.{leb, ltb}
+use Rattle.std.proofs.shelf.Tests.{cases-lt, cases-order, lt-ltb, cond-true, true≢false, false≢true}
 use Rattle.fairness.specs.Sums.{sumTo}
 use Rattle.fairness.specs.Plans.{total, Feasible}
+use Rattle.fairness.specs.Routes.{worthwhile}
 use Rattle.fairness.specs.Settled.{Closed}
 use Rattle.fairness.proofs.Steps.{Capped, Strict, Held, worth}
-use Rattle.fairness.specs.Laws.{mirror, atMost, isBelow, isLevel}
-use Rattle.fairness.proofs.Orders.{Compare, Laws, Rising, atOrBelow, Fairer, Fairest, gains, Safe, Settled}
+use Rattle.fairness.specs.Laws.{isBelow, isLevel}
+use Rattle.fairness.proofs.Orders.{Compare, Laws, Rising, atOrBelow, Fairest, gains, Safe, Settled}
 use Rattle.fairness.specs.declared.Rank.{Rank}
 use Rattle.fairness.specs.declared.Rank.the-variants.{Below, Level, Above}
-use Rattle.fairness.proofs.Sums.{sum-eq, sum-add, sum-at, sum-le}
-use Rattle.fairness.proofs.Numbers.{upTo, digits, digits-sum, weight, weight-le, weight-twice, drop-le, drop-lt}
-use Rattle.fairness.proofs.Ranks.{rank, rank-keeps, rank-below, below-rank, rank-rises, top, rank-top}
-use Rattle.fairness.proofs.Pot.{ranks, pot, pot-falls, falls-fairer, pot-same}
+use Rattle.fairness.proofs.Sums.{sum-eq, sum-add, sum-at}
+use Rattle.fairness.proofs.Numbers.{digits-sum, weight, weight-twice, drop-le, drop-lt}
+use Rattle.fairness.proofs.Ranks.{rank, rank-keeps, below-rank, rank-rises, top, rank-top}
+use Rattle.fairness.proofs.Pot.{pot, pot-falls, falls-fairer, pot-same}
 use Rattle.fairness.proofs.Dominance.{dominance}
 use Rattle.fairness.proofs.Within.{within-one}
 
@@ -32,12 +33,12 @@ pub pot-sum : (cmp : Compare) (n h : ℕ) (t : ℕ → ℕ) → pot cmp n h t �
 unfolding pot value weight
 pot-sum cmp n h t = digits-sum (suc (suc n)) n (λ i r. cond (leb (rank cmp n h i (t i)) r) 1 0) (top n h)
 
-fail-cases : (o o′ : Rank) → (isBelow o || (isLevel o && isBelow o′)) ≡ false → (o ≡ Above) ⊎ ((o ≡ Level) × (isBelow o′ ≡ false))
+fail-cases : (o o′ : Rank) → worthwhile o o′ ≡ false → (o ≡ Above) ⊎ ((o ≡ Level) × (isBelow o′ ≡ false))
 fail-cases Below o′ e = absurd (true≢false e)
 fail-cases Level o′ e = inr (refl, e)
 fail-cases Above o′ e = inl refl
 
-gain-cases : (o o′ : Rank) → (isBelow o || (isLevel o && isBelow o′)) ≡ true → (o ≡ Below) ⊎ ((o ≡ Level) × (isBelow o′ ≡ true))
+gain-cases : (o o′ : Rank) → worthwhile o o′ ≡ true → (o ≡ Below) ⊎ ((o ≡ Level) × (isBelow o′ ≡ true))
 gain-cases Below o′ e = inl refl
 gain-cases Level o′ e = inr (refl, e)
 gain-cases Above o′ e = absurd (false≢true e)

@@ -1,13 +1,13 @@
 -- Sorted lists and counts: the place k holds at most v just where more than k numbers are at most v.
 use Prim.Native.Nat.{ℕ, zero, suc, _+_, _≤_, _<_}
-use mathlib.Core.Path.{_≡_, refl, sym, ap, _∙_}
-use mathlib.Core.Bool.{Bool, true, false, cond}
-use mathlib.Core.Logic.{_⊎_, inl, inr}
+use mathlib.Core.Path.{_≡_, refl, ap, _∙_}
+use mathlib.Core.Bool.{cond}
+use mathlib.Core.Logic.{inl, inr}
 use mathlib.Core.List.{List, [], _∷_}
 use native.Mathlib.Omega.{arith}
 use lib.Dec.{leb}
 use lib.ListN.{length, getD}
-use Rattle.std.proofs.shelf.Tests.{cases-lt, cases-bool, leb-true, leb-false, cond-true, cond-false, cond-both}
+use Rattle.std.proofs.shelf.Tests.{cases-lt, leb-true, leb-false, cond-both}
 use Rattle.fairness.specs.Lexicographic.{insert, sorted}
 use Rattle.fairness.proofs.Numbers.{upTo}
 

@@ -1,5 +1,5 @@
 -- Steps of tasks: g i k is what the step of task i from the total k to k + 1 is worth.
-use Prim.Native.Nat.{ℕ, suc, _+_, _-_, _≤_, _<_}
+use Prim.Native.Nat.{ℕ, suc, _-_, _≤_, _<_}
 use mathlib.Core.Path.{_≡_}
 use mathlib.Core.Bool.{Bool, true}
 use Rattle.fairness.specs.Sums.{sumTo}

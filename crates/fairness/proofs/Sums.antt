@@ -1,23 +1,18 @@
 -- Laws of sums, over all indices below a bound and over a set of them.
-use Prim.Native.Nat.{ℕ, zero, suc, _+_, _-_, _*_, _≤_, _<_}
-use mathlib.Core.Path.{_≡_, refl, sym, ap, _∙_}
+use Prim.Native.Nat.{ℕ, zero, suc, _+_, _*_, _≤_, _<_}
+use mathlib.Core.Path.{_≡_, refl, sym, _∙_}
 use mathlib.Core.Bool.{Bool, true, false, cond}
 use mathlib.Core.Logic.{_⊎_, inl, inr}
 use native.Mathlib.Omega.{arith}
 use native.Mathlib.Numerals.{add-one}
-use mathlib.Core.Bool.{not, _&&_, _||_}
-use lib.Dec.{leb, ltb, eqb}
-use Rattle.std.proofs.shelf.Tests.{cases-bool, cases-lt, cases-eq, or-cases, false≢true, cond-true, cond-false, eq-eqb, ne-eqb}
-use Rattle.fairness.specs.Sums.{sumTo}
+use mathlib.Core.Bool.{not}
+use lib.Dec.{eqb}
+use Rattle.std.proofs.shelf.Tests.{cases-bool, cases-eq, or-cases, false≢true, cond-true, cond-false, eq-eqb, ne-eqb, and-from, and-parts}
+use Rattle.fairness.specs.Sums.{sumTo, allTo, someTo}
 
 -- the sum over the indices below n that stand in the set r
 abbrev pub sumIn : ℕ → (ℕ → Bool) → (ℕ → ℕ) → ℕ
 sumIn n r f = sumTo n (λ i. cond (r i) (f i) 0)
-
--- is there an index below n that passes
-abbrev pub someTo : ℕ → (ℕ → Bool) → Bool
-someTo zero p = false
-someTo (suc n) p = p n || someTo n p
 
 -- one summand more, in the form in which a loop adds it
 pub sum-more : (n : ℕ) (f : ℕ → ℕ) → sumTo (n + 1) f ≡ sumTo n f + f n
@@ -147,3 +142,13 @@ some-from (suc n) i p l h = elim (cases-eq i n) [ inl e ↦ grind (arith, rw e a
 pub some-has : (n : ℕ) (p : ℕ → Bool) → someTo n p ≡ true → (i : ℕ) × (i < n) × (p i ≡ true)
 some-has zero p h = absurd (false≢true h)
 some-has (suc n) p h = elim (or-cases (p n) (someTo n p) h) [ inl e ↦ (n, omega arith, e) | inr e ↦ let k = some-has n p e in (k .0, omega arith, k .2) ]
+
+pub all-from : (n : ℕ) (p : ℕ → Bool) → ((i : ℕ) → i < n → p i ≡ true) → allTo n p ≡ true
+all-from zero p h = refl
+all-from (suc n) p h = and-from (p n) (allTo n p) (h n (omega arith)) (all-from n p (λ i l. h i (omega arith)))
+
+pub all-has : (n : ℕ) (p : ℕ → Bool) → allTo n p ≡ true → (i : ℕ) → i < n → p i ≡ true
+all-has zero p h i l = absurd (omega arith)
+all-has (suc n) p h i l =
+    let x = and-parts (p n) (allTo n p) h in
+    elim (cases-eq i n) [ inl e ↦ rw e (x .0) | inr e ↦ all-has n p (x .1) i (omega arith) ]

@@ -1,17 +1,14 @@
 -- The statements on fairest plans, from the theory on boards with caps.
-use Prim.Native.Nat.{ℕ, zero, suc, _+_, _-_, _≤_, _<_}
+use Prim.Native.Nat.{ℕ, _-_, _<_}
 use mathlib.Core.Path.{_≡_, refl, sym, ap, _∙_}
-use mathlib.Core.Bool.{Bool, true, false}
-use mathlib.Core.Logic.{_⊎_, inl, inr}
+use mathlib.Core.Bool.{true}
+use mathlib.Core.Logic.{inl, inr}
 use native.Mathlib.Omega.{arith}
-use lib.Dec.{eqb}
-use Rattle.std.proofs.shelf.Tests.{cases-bool, cases-eq, cases-lt, eqb-true}
-use Rattle.fairness.specs.Sums.{sumTo}
+use Rattle.std.proofs.shelf.Tests.{cases-bool, cases-eq, cases-lt}
 use Rattle.fairness.specs.Plans.{Plan, given, total, Feasible}
 use Rattle.fairness.specs.Laws.{Comparison, Lawful}
-use Rattle.fairness.specs.Levels.{Fairer, Fairest, SameLevels, Countable, shareOf}
-use Rattle.fairness.specs.Moves.{same}
-use Rattle.fairness.specs.Routes.{Route, Exchanged, FreeSlotTaken, FairExchange, shouldGain}
+use Rattle.fairness.specs.Levels.{Fairer, Countable, shareOf}
+use Rattle.fairness.specs.Routes.{shouldGain}
 use Rattle.fairness.specs.Settled.{Settled, NoneFree, NoFairerRoute}
 use Rattle.fairness.specs.Theorems.{Settled-fairest, Fairest-settled, Free-slot-fairer, Exchange-fairer, Fairest-exactly, Fairest-same-levels, Fairest-within-one, Levelling-ends}
 use Rattle.fairness.proofs.Orders as on
@@ -24,9 +21,10 @@ use Rattle.fairness.proofs.Settled.{settled-fairest, same-levels, height}
 use Rattle.fairness.proofs.Fairest.{fairest-settled, fairest-within-one, no-self}
 use Rattle.fairness.proofs.Gains.{gain-fairer, free-fairer}
 use Rattle.fairness.proofs.Pot.{pot, pot-falls}
-use Rattle.fairness.proofs.Reach.{layer, layer-own, layer-next, stable, first, Fresh}
+use Rattle.fairness.specs.Decision.{layer}
+use Rattle.fairness.proofs.Reach.{layer-own, layer-next, stable, first, Fresh}
 use Rattle.fairness.proofs.Routes.{exchange, exchange-exchanged, exchange-total, exchange-feasible}
-use Rattle.fairness.proofs.Ways.{Way, way, way-route}
+use Rattle.fairness.proofs.Ways.{way, way-route}
 
 pub settled-is-fairest : Settled-fairest
 settled-is-fairest compare lawful n m need capacity few held feasible settled =
@@ -86,16 +84,15 @@ settled-from-routes : (compare : Comparison) → Lawful compare → (n m : ℕ) 
     → (held : Plan) → Feasible n m need capacity held → NoneFree n m need capacity held → NoFairerRoute compare n m need held
     → Settled compare n m need capacity held
 settled-from-routes compare lawful n m need capacity few held feasible none-free no-route p l low =
-    let st = stable n m need held p in
     record {
-      set = layer n m need held p (st .0);
+      set = layer n m need held p n;
       closed = record {
         full = λ task core u v x less. none-free task core u v less;
-        inside = λ task core holder u v w x less pos. st .1 holder w (layer-next n m need held p (st .0) task core holder u v x less pos);
+        inside = λ task core holder u v w x less pos. stable n m need held p holder w (layer-next n m need held p n task core holder u v x less pos);
       };
-      own = layer-own n m need held p (st .0);
+      own = layer-own n m need held p n;
       none-gives = λ q u x pos. elim (cases-bool (shouldGain compare (shareOf m need held p) (shareOf m need held q))) [
-        | inl gain ↦ let f = first n m need held p (st .0) q x in absurd (gains-nothing (f .0) q u (f .1) pos gain)
+        | inl gain ↦ let f = first n m need held p n q x in absurd (gains-nothing (f .0) q u (f .1) pos gain)
         | inr none ↦ none
       ];
     }

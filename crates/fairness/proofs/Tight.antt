@@ -1,15 +1,15 @@
 -- Closed sets are tight, and unions of closed sets are closed.
-use Prim.Native.Nat.{ℕ, zero, suc, _+_, _-_, _*_, _≤_, _<_}
-use mathlib.Core.Path.{_≡_, refl, sym, ap, _∙_}
-use mathlib.Core.Bool.{Bool, true, false, cond, _&&_}
-use mathlib.Core.Logic.{_⊎_, inl, inr}
+use Prim.Native.Nat.{ℕ, _≤_, _<_}
+use mathlib.Core.Path.{_≡_}
+use mathlib.Core.Bool.{Bool, true, _&&_}
+use mathlib.Core.Logic.{inl, inr}
 use native.Mathlib.Omega.{arith}
-use lib.Dec.{leb, ltb}
-use Rattle.std.proofs.shelf.Tests.{and-parts, and-from, lt-ltb, ltb-true}
-use Rattle.fairness.specs.Sums.{sumTo}
-use Rattle.fairness.specs.Plans.{given, total, Feasible}
+use lib.Dec.{ltb}
+use Rattle.std.proofs.shelf.Tests.{and-parts, and-from, ltb-true}
+use Rattle.fairness.specs.Sums.{someTo}
+use Rattle.fairness.specs.Plans.{total, Feasible}
 use Rattle.fairness.specs.Settled.{Closed}
-use Rattle.fairness.proofs.Sums.{sumIn, someTo, sum-le, in-le, in-all, in-whole, in-swap, some-cases, some-has, some-from}
+use Rattle.fairness.proofs.Sums.{sumIn, sum-le, in-le, in-all, in-whole, in-swap, some-cases, some-has, some-from}
 
 module _ (n m : ℕ) (d : ℕ → ℕ → ℕ) (c : ℕ → ℕ) (a : ℕ → ℕ → ℕ) where
   -- at one core

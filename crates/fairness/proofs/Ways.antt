@@ -1,14 +1,15 @@
 -- From a task that is reached to a route that leads there.
-use Prim.Native.Nat.{ℕ, zero, suc, _+_, _-_, _≤_, _<_}
-use mathlib.Core.Path.{_≡_, refl, sym, ap, subst, _∙_}
-use mathlib.Core.Bool.{Bool, true, false, cond}
+use Prim.Native.Nat.{ℕ, zero, suc, _≤_, _<_}
+use mathlib.Core.Path.{_≡_, refl, _∙_}
+use mathlib.Core.Bool.{cond}
 use native.Mathlib.Omega.{arith}
-use mathlib.Core.Logic.{_⊎_, inl, inr}
-use lib.Dec.{leb, ltb, eqb}
+use mathlib.Core.Logic.{inl, inr}
+use lib.Dec.{leb, ltb}
 use Rattle.std.proofs.shelf.Tests.{cases-lt, eqb-true, both-ways, cond-true, cond-false, le-leb, lt-leb, lt-ltb, le-ltb}
 use Rattle.fairness.specs.Plans.{Plan}
 use Rattle.fairness.specs.Routes.{Route}
-use Rattle.fairness.proofs.Reach.{layer, Fresh, parent, apart, layer-next}
+use Rattle.fairness.specs.Decision.{layer}
+use Rattle.fairness.proofs.Reach.{Fresh, parent, apart, layer-next}
 
 -- a way from p to q that goes up one layer with each step
 pub record Way (n m : ℕ) (need held : Plan) (p steps q : ℕ) : Type 0 where

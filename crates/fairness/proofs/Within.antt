@@ -1,17 +1,15 @@
 -- Totals within one, also where capacity grows.
-use Prim.Native.Nat.{ℕ, zero, suc, _+_, _-_, _*_, _≤_, _<_, min}
-use mathlib.Core.Path.{_≡_, refl, sym, ap, _∙_}
-use mathlib.Core.Bool.{Bool, true, false, cond, not, _&&_}
-use mathlib.Core.Logic.{_⊎_, inl, inr}
+use Prim.Native.Nat.{ℕ, zero, suc, _+_, _-_, _≤_, _<_}
+use mathlib.Core.Path.{_≡_, refl}
+use mathlib.Core.Bool.{Bool, true, false, not, _&&_}
+use mathlib.Core.Logic.{inl, inr}
 use native.Mathlib.Omega.{arith}
-use lib.Dec.{leb, ltb}
-use Rattle.std.proofs.shelf.Tests.{and-parts, and-from, lt-ltb, ltb-true, leb-true, le-leb, cases-lt, cases-bool, both-ways, not-true, not-from-false}
-use Rattle.fairness.specs.Sums.{sumTo}
-use Rattle.fairness.specs.Plans.{given, total, Feasible}
+use lib.Dec.{ltb}
+use Rattle.std.proofs.shelf.Tests.{and-parts, and-from, ltb-true, cases-lt, cases-bool, both-ways, not-true, not-from-false}
+use Rattle.fairness.specs.Plans.{total, Feasible}
 use Rattle.fairness.specs.Settled.{Closed}
 use Rattle.fairness.proofs.Steps.{Capped, Falling, Strict, Held}
-use Rattle.fairness.proofs.Sums.{sumIn, someTo, sum-le, sum-eq, in-lt, in-le, in-all, in-whole, in-swap, some-has, some-from, some-cases}
-use Rattle.fairness.proofs.Tight.{closed-union}
+use Rattle.fairness.proofs.Sums.{sumIn, sum-le, in-lt, in-le, in-all, in-whole, in-swap, some-cases}
 use Rattle.fairness.proofs.Fronts.{falls, front, front-closed, front-own, front-last}
 
 in-split : (n : ℕ) (r q : ℕ → Bool) (f : ℕ → ℕ) → sumIn n (λ i. r i && not (q i)) f + sumIn n (λ i. r i && q i) f ≡ sumIn n r f

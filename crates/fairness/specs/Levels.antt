@@ -7,7 +7,7 @@ use Rattle.fairness.specs.declared.Share.{Share}
 use Rattle.fairness.specs.declared.Rank.the-variants.{Below}
 use Rattle.fairness.specs.Sums.{sumTo}
 use Rattle.fairness.specs.Plans.{Plan, total, Feasible}
-use Rattle.fairness.specs.Laws.{Comparison, atMost}
+use Rattle.fairness.specs.Laws.{Comparison, atMost, mostCounted}
 
 -- the share of a task that has so many slots, where `whole` gives each task's whole need
 abbrev pub shareWith : (ℕ → ℕ) → ℕ → ℕ → Share
@@ -48,4 +48,4 @@ SameLevels compare n m need first second =
 
 -- no task needs more slots in all than the rules tell apart
 abbrev pub Countable : ℕ → ℕ → Plan → Type 0
-Countable n m need = (task : ℕ) → task < n → total m need task ≤ 16000
+Countable n m need = (task : ℕ) → task < n → total m need task ≤ mostCounted

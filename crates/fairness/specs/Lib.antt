@@ -1,5 +1,6 @@
 pub mod Theorems
 pub mod Lexicographic
+pub mod Decision
 pub mod Settled
 pub mod Routes
 pub mod Moves

@@ -3,6 +3,7 @@ use Prim.Native.Nat.{ℕ, suc, _+_, _-_, _≤_, _<_}
 use mathlib.Core.Path.{_≡_}
 use mathlib.Core.Bool.{Bool, true, _&&_, _||_}
 use Rattle.fairness.specs.declared.Share.{Share}
+use Rattle.fairness.specs.declared.Rank.{Rank}
 use Rattle.fairness.specs.Sums.{sumTo}
 use Rattle.fairness.specs.Plans.{Plan, given}
 use Rattle.fairness.specs.Laws.{Comparison, isBelow, isLevel}
@@ -32,11 +33,13 @@ risen share = record { task = share .task; «whole_need» = share .«whole_need�
 abbrev pub fallen : Share → Share
 fallen share = record { task = share .task; «whole_need» = share .«whole_need»; total = share .total - 1 }
 
--- the test of an exchange: the gainer stands below where the loser would fall to;
--- or level with it, and the loser now stands below where the gainer would rise to
+-- the test of an exchange, by where the gainer stands, seen from where the loser would fall to,
+-- and where the loser now stands, seen from where the gainer would rise to
+abbrev pub worthwhile : Rank → Rank → Bool
+worthwhile low high = isBelow low || (isLevel low && isBelow high)
+
 abbrev pub shouldGain : Comparison → Share → Share → Bool
-shouldGain compare gainer loser =
-    isBelow (compare gainer (fallen loser)) || (isLevel (compare gainer (fallen loser)) && isBelow (compare loser (risen gainer)))
+shouldGain compare gainer loser = worthwhile (compare gainer (fallen loser)) (compare loser (risen gainer))
 
 -- a task takes a free slot that it needs
 pub record FreeSlotTaken (n m : ℕ) (need : Plan) (capacity : ℕ → ℕ) (before after : Plan) : Type 0 where

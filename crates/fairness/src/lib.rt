@@ -1,5 +1,6 @@
 // What a rule of shares sees of a task, and what it answers; and the theorems on fairest plans, each named by a function's contract.
 ghost use Rattle.fairness.specs.Theorems.{Settled-fairest, Fairest-settled, Free-slot-fairer, Exchange-fairer, Fairest-exactly, Fairest-same-levels, Fairest-within-one, Levelling-ends};
+ghost use Rattle.fairness.specs.Decision.{Fairest-decided};
 ghost use Rattle.fairness.specs.Lexicographic.{Even-lexicographic};
 
 // What a rule is told of a task: its number, the sum of its needs and the sum of its slots over all cores.
@@ -77,6 +78,13 @@ pub fn levelling_ends() -> u8
 // Under the even rule, fairest is the same as lexicographically fair.
 pub fn even_is_lexicographic() -> u8
     ensures { λ _. ⌜ Even-lexicographic ⌝ }
+{
+    0
+}
+
+// A computation tells the fairest plans from the others.
+pub fn fairest_is_decided() -> u8
+    ensures { λ _. ⌜ Fairest-decided ⌝ }
 {
     0
 }

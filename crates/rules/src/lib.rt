@@ -5,6 +5,7 @@ ghost use Rattle.fairness.specs.Laws.{Comparison, Lawful};
 ghost use Rattle.fairness.specs.Even.{even, standing, counted};
 ghost use Rattle.rules.specs.Comparisons.{weighted, byNeed, weight, divisor};
 ghost use Rattle.fairness.proofs.Standings.{even-lawful};
+ghost use Rattle.rules.specs.WorkedPlans.{Worked-plans-agree};
 ghost use Rattle.rules.specs.Lawful.{weighted-lawful, by-need-lawful};
 use fairness::Rank;
 use fairness::Share;
@@ -109,4 +110,11 @@ pub impl Rule for ByNeed as NeedRule {
             count(b.total) * divide_by(a.whole_need),
         )
     }
+}
+
+// The definitions agree with the worked plans.
+pub fn worked_plans_agree() -> u8
+    ensures { λ _. ⌜ Worked-plans-agree ⌝ }
+{
+    0
 }

@@ -1,2 +1,3 @@
 pub mod Sizes
 pub mod Steps
+pub mod Reads

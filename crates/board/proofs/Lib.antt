@@ -1,0 +1,5 @@
+pub mod Bounds
+pub mod Changes
+pub mod Passed
+pub mod New
+pub mod Going

@@ -1,8 +1,8 @@
 -- What a board says, and the condition that every board keeps.
 use mathlib.Core.Path.{_≡_}
-use mathlib.Core.Bool.{cond, _&&_}
+use mathlib.Core.Bool.{Bool, cond, _&&_}
 use Prim.Native.Nat.{ℕ, _+_, _-_, _≤_, _<_}
-use lib.Dec.{ltb, eqb}
+use lib.Dec.{ltb, leb, eqb}
 use Rattle.fairness.specs.Sums.{sumTo}
 use Rattle.fairness.specs.Plans.{Plan, given, total}
 
@@ -106,6 +106,22 @@ cleared m = record {
   greatest-pairs = m .greatest-pairs;
   greatest-capacity = m .greatest-capacity;
 }
+
+-- a clear board of n tasks and m cores, each of which can be given up to `greatest`
+abbrev pub newBoard : ℕ → ℕ → ℕ → ℕ → Meaning
+newBoard n m pairs greatest = record {
+  tasks = n;
+  cores = m;
+  capacity = λ _. 0;
+  need = λ _ _. 0;
+  held = λ _ _. 0;
+  greatest-pairs = pairs;
+  greatest-capacity = λ core. cond (ltb core m) greatest 0;
+}
+
+-- how many tasks and cores a board may be made for
+abbrev pub sizesAllowed : ℕ → ℕ → Bool
+sizesAllowed n m = leb 1 n && leb n mostTasks && leb 1 m && leb m mostCores
 
 -- all but the slots held is the same
 abbrev pub SameOrder : Meaning → Meaning → Type 0

@@ -1,11 +1,11 @@
 -- What each change comes to: the refusals in the order in which they are tested, or the new meaning.
-use mathlib.Core.Bool.{cond, _&&_, _||_}
+use mathlib.Core.Bool.{Bool, true, false, cond, _&&_, _||_}
 use Prim.Native.Nat.{ℕ}
 use lib.Dec.{ltb, leb, eqb}
 use Rattle.std.specs.declared.result.Result.{Result}
 use Rattle.std.specs.declared.result.Result.the-variants.{Ok, Err}
 use Rattle.board.specs.declared.fault.Refusal.{Refusal}
-use Rattle.board.specs.declared.fault.Refusal.the-variants.{NoSuchTaskOrCore, AmountTooLarge, SlotsOverNeed, CoreOverCapacity, NoPairLeft}
+use Rattle.board.specs.declared.fault.Refusal.the-variants.{NoSuchTaskOrCore, AmountTooLarge, SlotsOverNeed, CoreOverCapacity, NoPairLeft, CannotBeMade}
 use Rattle.board.specs.declared.fault.Fault.{Fault}
 use Rattle.board.specs.Refusals.{faultAt}
 use Rattle.board.specs.Meaning.{Meaning, mostSlots, givenAt, pairCount, withNeed, withHeld, withCapacity}
@@ -45,3 +45,8 @@ setCapacity m core amount =
     (cond (ltb (m .greatest-capacity core) amount) (refused AmountTooLarge)
     (cond (ltb amount (givenAt m core)) (refused CoreOverCapacity)
     (done (withCapacity m core amount))))
+
+-- what the check before making answers, where it is known whether the board can be made
+abbrev pub checked : Bool → Result (Unit {0}) Fault
+checked true = Ok tt
+checked false = Err (faultAt CannotBeMade 0)

@@ -1,6 +1,6 @@
 // Why a call refuses, and where in a file.
 ghost use mathlib.Core.Path.{_≡_};
-ghost use Rattle.board.specs.Refusals.{numberOf, layerOf};
+ghost use Rattle.board.specs.Refusals.{numberOf, layerOf, faultAt};
 
 #[derive(Clone, Copy, PartialEq, Eq, Debug, Drop)]
 pub enum Refusal {
@@ -46,6 +46,15 @@ impl Refusal {
             | Refusal::CannotBeMade => 2,
             Refusal::RouteListTooShort => 3,
             _ => 1,
+        }
+    }
+
+    pub fn at(self, place: usize) -> Fault
+        ensures { λ r. ⌜ r ≡ faultAt self place ⌝ }
+    {
+        Fault {
+            refusal: self,
+            place,
         }
     }
 }

@@ -1,3 +1,11 @@
-pub mod Sums
-pub mod Plans
+pub mod Theorems
+pub mod Lexicographic
+pub mod Decision
+pub mod Settled
+pub mod Routes
+pub mod Moves
+pub mod Levels
 pub mod Laws
+pub mod Even
+pub mod Plans
+pub mod Sums

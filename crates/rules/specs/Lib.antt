@@ -1,0 +1,4 @@
+pub mod Comparisons
+pub mod Lawful
+pub mod Claims
+pub mod WorkedPlans

@@ -1,0 +1,10 @@
+// What a pair board writes into its list.
+
+// A pair of a task and a core, what the task needs there and what it holds.
+#[derive(Clone, Copy)]
+pub struct Entry {
+    pub task: u8,
+    pub core: u8,
+    pub need: u16,
+    pub held: u16,
+}

@@ -1,0 +1,4 @@
+pub mod Gains
+pub mod Searches
+pub mod Chains
+pub mod Founds

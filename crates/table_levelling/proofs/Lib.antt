@@ -1,0 +1,3 @@
+pub mod Mixtures
+pub mod Copying
+pub mod Tables

@@ -1,0 +1,12 @@
+use mathlib.Core.Path.{_≡_}
+use Rattle.board.specs.Meaning.{Meaning, planned}
+use Rattle.board.specs.Boards.{Went}
+use Rattle.table_levelling.specs.Copies.{capacitiesTo, rowTo, tasksTo, lesser, ordered}
+use Rattle.table_levelling.proofs.lower_task.Given as given
+
+abbrev pub Inv-loop-core : given.InvT-loop-core
+Inv-loop-core g l =
+    let from : Meaning = g .A·Board .meaning (l .from) in
+    let b = g .B·Board in
+    let old : Meaning = b .meaning (l .entry .to) in
+    Went (b .meaning) (b .ready) (b .kept) (l .entry .to) (l .to) × (b .meaning (l .to) ≡ planned old (rowTo (lesser (from .held) (old .held)) (old .held) (l .task) (l .core)))

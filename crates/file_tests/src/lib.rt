@@ -14,18 +14,83 @@ use tasks::table::TaskTable;
 
 // Two tasks on two cores of capacity 3, and three needs of 3.
 pub const SAMPLE: [u8; 69] = [
-    5, 0, 1, 0, 0x65, 2, 2,
-    5, 0, 2, 0, 0, 3, 0,
-    5, 0, 2, 0, 1, 3, 0,
-    7, 0, 3, 0, 0, 1, 0x62, 0x75, 0x73,
-    7, 0, 3, 0, 1, 1, 0x6C, 0x6F, 0x67,
-    6, 0, 4, 0, 0, 0, 3, 0,
-    6, 0, 4, 0, 1, 0, 3, 0,
-    6, 0, 4, 0, 1, 1, 3, 0,
-    4, 0, 6, 0, 8, 0,
+    5,
+    0,
+    1,
+    0,
+    0x65,
+    2,
+    2,
+    5,
+    0,
+    2,
+    0,
+    0,
+    3,
+    0,
+    5,
+    0,
+    2,
+    0,
+    1,
+    3,
+    0,
+    7,
+    0,
+    3,
+    0,
+    0,
+    1,
+    0x62,
+    0x75,
+    0x73,
+    7,
+    0,
+    3,
+    0,
+    1,
+    1,
+    0x6C,
+    0x6F,
+    0x67,
+    6,
+    0,
+    4,
+    0,
+    0,
+    0,
+    3,
+    0,
+    6,
+    0,
+    4,
+    0,
+    1,
+    0,
+    3,
+    0,
+    6,
+    0,
+    4,
+    0,
+    1,
+    1,
+    3,
+    0,
+    4,
+    0,
+    6,
+    0,
+    8,
+    0,
 ];
 
-pub const NO_ENTRY: Entry = Entry { task: 0, core: 0, need: 0, held: 0 };
+pub const NO_ENTRY: Entry = Entry {
+    task: 0,
+    core: 0,
+    need: 0,
+    held: 0,
+};
 
 // What a reading is told: the number of the refusal and its place, or 0 and the letter.
 #[derive(Clone, Copy, PartialEq, Eq, Debug, Drop)]
@@ -36,8 +101,14 @@ pub struct Told {
 
 pub fn answered(answer: Result<u8, Fault>) -> Told {
     match answer {
-        Ok(letter) => Told { number: 0, place: letter as usize },
-        Err(fault) => Told { number: fault.number(), place: fault.place },
+        Ok(letter) => Told {
+            number: 0,
+            place: letter as usize,
+        },
+        Err(fault) => Told {
+            number: fault.number(),
+            place: fault.place,
+        },
     }
 }
 
@@ -58,7 +129,11 @@ pub struct Change {
 }
 
 pub const fn changed(at: usize, byte: u8, number: u8, place: usize) -> Change {
-    Change { at, byte, told: Told { number, place } }
+    Change {
+        at,
+        byte,
+        told: Told { number, place },
+    }
 }
 
 // The first change that is told something else.
@@ -84,7 +159,10 @@ pub struct Draft {
 
 impl Draft {
     pub fn new() -> Draft {
-        Draft { bytes: [0; 17662], length: 0 }
+        Draft {
+            bytes: [0; 17662],
+            length: 0,
+        }
     }
 
     pub fn put(&mut self, byte: u8) {

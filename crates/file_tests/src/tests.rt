@@ -105,20 +105,98 @@ fn more_than_one_byte() -> Result<(), Fail> {
     twice[36] = 0x62;
     twice[37] = 0x75;
     twice[38] = 0x73;
-    check_eq(told_of(&twice), Told { number: 8, place: 30 })?;
+    check_eq(
+        told_of(&twice),
+        Told {
+            number: 8,
+            place: 30,
+        },
+    )?;
     let mut longer = [0; 70];
     longer[0..69].copy_from_slice(&SAMPLE);
-    check_eq(told_of(&longer), Told { number: 11, place: 69 })?;
-    check_eq(told_of(&[0; 17662]), Told { number: 1, place: 0 })?;
-    check_eq(told_of(&[0; 17661]), Told { number: 2, place: 0 })?;
-    check_eq(told_of(&[2, 0, 9]), Told { number: 2, place: 0 })?;
-    check_eq(told_of(&[2, 0, 9, 0]), Told { number: 3, place: 0 })
+    check_eq(
+        told_of(&longer),
+        Told {
+            number: 11,
+            place: 69,
+        },
+    )?;
+    check_eq(
+        told_of(&[0; 17662]),
+        Told {
+            number: 1,
+            place: 0,
+        },
+    )?;
+    check_eq(
+        told_of(&[0; 17661]),
+        Told {
+            number: 2,
+            place: 0,
+        },
+    )?;
+    check_eq(
+        told_of(&[2, 0, 9]),
+        Told {
+            number: 2,
+            place: 0,
+        },
+    )?;
+    check_eq(
+        told_of(&[2, 0, 9, 0]),
+        Told {
+            number: 3,
+            place: 0,
+        },
+    )
 }
 
 // One task on one core: a need of 3 at the capacity, and the slots held.
 fn one_pair(capacity: u8, slots: u8) -> [u8; 43] {
     [
-        5, 0, 1, 0, 0x65, 1, 1, 5, 0, 2, 0, 0, capacity, 0, 5, 0, 3, 0, 0, 1, 0x61, 6, 0, 4, 0, 0, 0, 3, 0, 6, 0, 5, 0, 0, 0, slots, 0, 4, 0, 6, 0, 5, 0,
+        5,
+        0,
+        1,
+        0,
+        0x65,
+        1,
+        1,
+        5,
+        0,
+        2,
+        0,
+        0,
+        capacity,
+        0,
+        5,
+        0,
+        3,
+        0,
+        0,
+        1,
+        0x61,
+        6,
+        0,
+        4,
+        0,
+        0,
+        0,
+        3,
+        0,
+        6,
+        0,
+        5,
+        0,
+        0,
+        0,
+        slots,
+        0,
+        4,
+        0,
+        6,
+        0,
+        5,
+        0,
     ]
 }
 
@@ -127,25 +205,61 @@ fn what_the_board_refuses() -> Result<(), Fail> {
     let mut two = [NO_ENTRY; 2];
     let mut small = PairBoard::make(2, 2, &mut two);
     let mut tasks = TaskTable::new();
-    check_eq(answered(read(&SAMPLE, &mut small, &mut tasks)), Told { number: 16, place: 55 })?;
+    check_eq(
+        answered(read(&SAMPLE, &mut small, &mut tasks)),
+        Told {
+            number: 16,
+            place: 55,
+        },
+    )?;
     check_eq(small.pair_count(), 0)?;
     check_eq(tasks.len(), 0)?;
     let mut entries = [NO_ENTRY; 1];
     let mut board = PairBoard::make(1, 1, &mut entries);
-    check_eq(answered(read(&one_pair(3, 3), &mut board, &mut tasks)), Told { number: 0, place: 0x65 })?;
+    check_eq(
+        answered(read(&one_pair(3, 3), &mut board, &mut tasks)),
+        Told {
+            number: 0,
+            place: 0x65,
+        },
+    )?;
     check_eq(board.held(0, 0), 3)?;
     check_eq(tasks.len(), 1)?;
-    check_eq(answered(read(&one_pair(3, 4), &mut board, &mut tasks)), Told { number: 14, place: 29 })?;
+    check_eq(
+        answered(read(&one_pair(3, 4), &mut board, &mut tasks)),
+        Told {
+            number: 14,
+            place: 29,
+        },
+    )?;
     check_eq(board.pair_count(), 0)?;
     check_eq(board.capacity(0), 0)?;
-    check_eq(answered(read(&one_pair(2, 3), &mut board, &mut tasks)), Told { number: 15, place: 29 })?;
+    check_eq(
+        answered(read(&one_pair(2, 3), &mut board, &mut tasks)),
+        Told {
+            number: 15,
+            place: 29,
+        },
+    )?;
     check_eq(tasks.len(), 0)?;
     let mut low = RowBoard::make(2, 2);
     let mut file = SAMPLE;
     file[13] = 1;
-    check_eq(answered(read(&file, &mut low, &mut tasks)), Told { number: 0, place: 0x65 })?;
+    check_eq(
+        answered(read(&file, &mut low, &mut tasks)),
+        Told {
+            number: 0,
+            place: 0x65,
+        },
+    )?;
     file[13] = 2;
-    check_eq(answered(read(&file, &mut low, &mut tasks)), Told { number: 13, place: 7 })
+    check_eq(
+        answered(read(&file, &mut low, &mut tasks)),
+        Told {
+            number: 13,
+            place: 7,
+        },
+    )
 }
 
 // The first record alone tells the sizes.
@@ -174,7 +288,28 @@ fn put_largest(draft: &mut Draft) {
         draft.put_all(&[5, 0, 2, 0, core, 0xE8, 3]);
     }
     for task in 0..64 {
-        draft.put_all(&[16, 0, 3, 0, task, 100, 0x74, 0x61, 0x73, 0x6B, 0x2D, 0x2D, 0x2D, 0x2D, 0x2D, 0x2D, 0x2D, 0x21 + task]);
+        draft.put_all(
+            &[
+                16,
+                0,
+                3,
+                0,
+                task,
+                100,
+                0x74,
+                0x61,
+                0x73,
+                0x6B,
+                0x2D,
+                0x2D,
+                0x2D,
+                0x2D,
+                0x2D,
+                0x2D,
+                0x2D,
+                0x21 + task,
+            ],
+        );
     }
     put_pairs(draft, 4, 0xE8, 3);
     put_pairs(draft, 5, 15, 0);
@@ -189,14 +324,26 @@ fn the_largest_order() -> Result<(), Fail> {
     let mut entries = [NO_ENTRY; 1024];
     let mut board = PairBoard::make(64, 16, &mut entries);
     let mut tasks = TaskTable::new();
-    check_eq(answered(read(draft.file(), &mut board, &mut tasks)), Told { number: 0, place: 0x77 })?;
+    check_eq(
+        answered(read(draft.file(), &mut board, &mut tasks)),
+        Told {
+            number: 0,
+            place: 0x77,
+        },
+    )?;
     check_eq(board.whole_need(63), 16000)?;
     check_eq(board.total(63), 240)?;
     check_eq(board.free_slots(), 640)?;
     check_eq(tasks.weight(63), 100)?;
     check_eq(tasks.name(63).len(), 12)?;
     draft.put(0);
-    check_eq(answered(read(draft.file(), &mut board, &mut tasks)), Told { number: 1, place: 0 })?;
+    check_eq(
+        answered(read(draft.file(), &mut board, &mut tasks)),
+        Told {
+            number: 1,
+            place: 0,
+        },
+    )?;
     check_eq(board.whole_need(63), 0)
 }
 
@@ -206,8 +353,42 @@ fn the_smallest_order() -> Result<(), Fail> {
     let mut entries = [NO_ENTRY; 1];
     let mut board = PairBoard::make(1, 1, &mut entries);
     let mut tasks = TaskTable::new();
-    let file = [5, 0, 1, 0, 0x65, 1, 1, 5, 0, 2, 0, 0, 0, 0, 5, 0, 3, 0, 0, 1, 0x61, 4, 0, 6, 0, 3, 0];
-    check_eq(answered(read(&file, &mut board, &mut tasks)), Told { number: 0, place: 0x65 })?;
+    let file = [
+        5,
+        0,
+        1,
+        0,
+        0x65,
+        1,
+        1,
+        5,
+        0,
+        2,
+        0,
+        0,
+        0,
+        0,
+        5,
+        0,
+        3,
+        0,
+        0,
+        1,
+        0x61,
+        4,
+        0,
+        6,
+        0,
+        3,
+        0,
+    ];
+    check_eq(
+        answered(read(&file, &mut board, &mut tasks)),
+        Told {
+            number: 0,
+            place: 0x65,
+        },
+    )?;
     check_eq(board.pair_count(), 0)?;
     check_eq(tasks.len(), 1)
 }

@@ -23,7 +23,7 @@ pub record Order : Type 0 where
   pub board : Meaning
   pub rows : List Row
 
--- a board and a table that are clear, and a file of which a whole reading makes the order or the first fault
+-- the order that a file is, or the first thing that is wrong with it
 abbrev pub Outcome : Type 0
 Outcome = Result Order Fault
 

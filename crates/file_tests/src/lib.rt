@@ -1,5 +1,4 @@
 // Order files put to the reader: each refusal with its place, each letter, the smallest and the largest order.
-ghost use Rattle.board.specs.Boards.{Good};
 
 #[cfg(test)]
 mod tests;

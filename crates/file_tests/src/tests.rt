@@ -1,5 +1,4 @@
 // What reading is told of files that are right, and of files that are wrong in one thing.
-ghost use Rattle.board.specs.Boards.{Good};
 use super::*;
 use board::fault::FaultDebug;
 use board::fault::FaultPartialEq;

@@ -117,11 +117,50 @@ CoveredTo m s b k = (j i : ℕ) → j < m .cores → i < m .tasks → isOpened s
 abbrev pub SweptTo : Meaning → Search → ℕ → ℕ → Type 0
 SweptTo m s x b = (j : ℕ) → j < b → m .held (taskAt s x) j < m .need (taskAt s x) j → isOpened s j ≡ true
 
+-- each core open was opened by a task at place x or before it
+abbrev pub OpenersTo : Search → ℕ → Type 0
+OpenersTo s x = (o : ℕ) → o < s .opens → openerAt s o ≤ x
+
+-- core j was opened by a task at place x or before it
+pub record OpenBy (s : Search) (x j : ℕ) : Type 0 where
+  pub opening : ℕ
+  pub made : opening < s .opens
+  pub core : coreAt s opening ≡ j
+  pub early : openerAt s opening ≤ x
+
+-- each core of which the task at place x still needs slots was opened so early
+abbrev pub EarlyOpen : Meaning → Search → ℕ → Type 0
+EarlyOpen m s x = (j : ℕ) → j < m .cores → m .held (taskAt s x) j < m .need (taskAt s x) j → OpenBy s x j
+
+-- task i began the search, or was found through opening o or an earlier one
+pub record FoundBy (s : Search) (o i : ℕ) : Type 0 where
+  pub place : ℕ
+  pub here : place < s .count
+  pub is : taskAt s place ≡ i
+  pub early : 0 < place → throughAt s place ≤ o
+
+-- each holder of the core of an opening was found so early
+abbrev pub Gathered : Meaning → Search → Type 0
+Gathered m s = (q i : ℕ) → q < s .opens → i < m .tasks → 0 < m .held i (coreAt s q) → FoundBy s q i
+
+-- the same, but of opening o only the holders below k
+abbrev pub GatheredTo : Meaning → Search → ℕ → ℕ → Type 0
+GatheredTo m s o k = (q i : ℕ) → q < s .opens → i < m .tasks → (q ≡ o → i < k) → 0 < m .held i (coreAt s q) → FoundBy s q i
+
+-- breadth first: tasks found earlier open earlier, and cores opened earlier find earlier
+pub record Layered (m : Meaning) (s : Search) : Type 0 where
+  pub openers-rise : (q : ℕ) → q < s .opens → (o : ℕ) → o < q → openerAt s o ≤ openerAt s q
+  pub openings-rise : (y : ℕ) → y < s .count → (x : ℕ) → 0 < x → x < y → throughAt s x ≤ throughAt s y
+  pub opening : (j : ℕ) → j < m .cores → isOpened s j ≡ true → (o : ℕ) × (o < s .opens) × (coreAt s o ≡ j)
+
 -- t has all that s has found and opened
 pub record Grown (s t : Search) : Type 0 where
   pub more : s .count ≤ t .count
   pub same : (x : ℕ) → x < s .count → taskAt t x ≡ taskAt s x
   pub stays : (j : ℕ) → isOpened s j ≡ true → isOpened t j ≡ true
+  pub more-opens : s .opens ≤ t .opens
+  pub same-core : (o : ℕ) → o < s .opens → coreAt t o ≡ coreAt s o
+  pub same-opener : (o : ℕ) → o < s .opens → openerAt t o ≡ openerAt s o
 
 -- the task at place x may open core j
 pub record MayOpen (m : Meaning) (s : Search) (x j : ℕ) : Type 0 where
@@ -131,30 +170,41 @@ pub record MayOpen (m : Meaning) (s : Search) (x j : ℕ) : Type 0 where
   pub real : j < m .cores
   pub shut : isOpened s j ≡ false
   pub wants : m .held (taskAt s x) j < m .need (taskAt s x) j
+  pub layered : Layered m s
+  pub gathered : Gathered m s
+  pub latest : OpenersTo s x
 
--- t is s with core j open and all its holders found
-pub record Opened (m : Meaning) (s t : Search) (j : ℕ) : Type 0 where
+-- t is s with core j opened by the task at place x and all its holders found
+pub record Opened (m : Meaning) (s t : Search) (x j : ℕ) : Type 0 where
   pub trail : Trail m t
   pub covered : Covered m t
   pub grown : Grown s t
   pub open-now : isOpened t j ≡ true
+  pub layered : Layered m t
+  pub gathered : Gathered m t
+  pub latest : OpenersTo t x
 
 -- all holders of the open cores are found
 pub record Complete (m : Meaning) (s : Search) : Type 0 where
   pub trail : Trail m s
   pub covered : Covered m s
+  pub layered : Layered m s
+  pub gathered : Gathered m s
 
 -- t is s with all cores below b open of which the task at place x still needs slots
 pub record Spread (m : Meaning) (s t : Search) (x b : ℕ) : Type 0 where
   pub complete : Complete m t
   pub grown : Grown s t
   pub swept : SweptTo m t x b
+  pub latest : OpenersTo t x
 
 -- none of the tasks at places below h should lose a slot to p, and what they lead to is found
 pub record Trying (compare : Comparison) (m : Meaning) (p : ℕ) (s : Search) (h : ℕ) : Type 0 where
   pub complete : Complete m s
   pub first : taskAt s 0 ≡ p
   pub swept : (x : ℕ) → x < h → SweptTo m s x (m .cores)
+  pub early : (x : ℕ) → x < h → EarlyOpen m s x
+  pub latest : (o : ℕ) → o < s .opens → openerAt s o < h
   pub fails : (x : ℕ) → x < h → gainsFrom compare (shareOn m p) (shareOn m (taskAt s x)) ≡ false
 
 -- the search began at p, and p should gain a slot from the task at place x
@@ -163,6 +213,9 @@ pub record Gain (compare : Comparison) (m : Meaning) (p : ℕ) (s : Search) (x :
   pub first : taskAt s 0 ≡ p
   pub here : x < s .count
   pub gains : gainsFrom compare (shareOn m p) (shareOn m (taskAt s x)) ≡ true
+  pub layered : Layered m s
+  pub gathered : Gathered m s
+  pub early : (y : ℕ) → y < x → EarlyOpen m s y
 
 -- what a search from task p comes to: nothing to gain once no slot is free, or the place of the task that should lose a slot
 abbrev pub Sought : Comparison → Meaning → ℕ → Search → Option ℕ → Type 0

@@ -7,7 +7,7 @@ ghost use Rattle.board.specs.Boards.{Good};
 ghost use Rattle.search.specs.Gains.{shareOn, gainsFrom};
 ghost use Rattle.search.specs.Chains.{Chain, Leads, RestSame};
 ghost use Rattle.search.specs.Founds.{Searched};
-ghost use Rattle.search.specs.Searches.{Linked, MayOpen, Opened, Complete, Spread, Sought, reached, entered, empty};
+ghost use Rattle.search.specs.Searches.{Linked, OpenersTo, MayOpen, Opened, Complete, Spread, Sought, reached, entered, empty};
 use board::Board;
 use board::MOST_CORES;
 use board::MOST_TASKS;
@@ -84,7 +84,7 @@ impl Search {
 fn open_core<B: Board>(board: &B, search: &mut Search, place: usize, core: usize)
     requires good { ⌜ Good meaning ready (now board) ⌝ }
     requires start { ⌜ MayOpen (meaning (now board)) (now search) place core ⌝ }
-    ensures { λ _. ⌜ Opened (meaning (now (board .entry))) (now (search .entry)) (now (search .exit)) core ⌝ }
+    ensures { λ _. ⌜ Opened (meaning (now (board .entry))) (now (search .entry)) (now (search .exit)) place core ⌝ }
 {
     let opening = search.opens;
     search.enter(place, core);
@@ -100,6 +100,7 @@ fn open_wanted<B: Board>(board: &B, search: &mut Search, place: usize)
     requires good { ⌜ Good meaning ready (now board) ⌝ }
     requires complete { ⌜ Complete (meaning (now board)) (now search) ⌝ }
     requires place { ⌜ place < now search .count ⌝ }
+    requires latest { ⌜ OpenersTo (now search) place ⌝ }
     ensures { λ _. ⌜ Spread (meaning (now (board .entry))) (now (search .entry)) (now (search .exit)) place (meaning (now (board .entry)) .cores) ⌝ }
 {
     let task = search.tasks[place];
@@ -205,6 +206,7 @@ fn route_to(search: &Search, place: usize, steps: &mut [Step]) -> usize
     requires place { ⌜ place < now search .count ⌝ }
     requires room { ⌜ mostCores ≤ length (now steps) ⌝ }
     ensures leads { λ r. ⌜ Leads (now (search .entry)) place (now (steps .exit)) r ⌝ }
+    ensures chain { λ r. ⌜ Chain (now (search .entry)) place (now (steps .exit)) r ⌝ }
     ensures few { λ r. ⌜ r ≤ mostCores ⌝ }
     ensures rest { λ r. ⌜ RestSame (now (steps .entry)) (now (steps .exit)) r ⌝ }
 {

@@ -35,6 +35,9 @@ returns-then-should-gain g c =
     record {
       trail = h .complete .trail;
       first = h .first;
+      layered = h .complete .layered;
+      gathered = h .complete .gathered;
+      early = h .early;
       here = c .loop-head-test .taken;
       gains = by-shares (g .R·Rule .order (c .args .rule .now)) m (c .args .gainer) (taskAt (c .loop-head .search) (c .loop-head .head)) _ _ true (c .share-of-share .ensures .is) (c .share-of .ensures .is) (c .if-should-gain .ensures tt);
     }

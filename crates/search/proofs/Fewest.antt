@@ -9,7 +9,8 @@ use Rattle.fairness.specs.Routes.{Route}
 use Rattle.board.specs.Meaning.{Meaning}
 use Rattle.routes.specs.declared.Step.{Step}
 use Rattle.search.specs.declared.Search.{Search}
-use Rattle.search.specs.Searches.{taskAt, throughAt, openerAt, Linked, EarlyOpen, Gathered, Layered}
+use Rattle.search.specs.Trails.{taskAt, throughAt, openerAt, Linked}
+use Rattle.search.specs.Layers.{EarlyOpen, Gathered, Layered}
 use Rattle.search.specs.Chains.{Chain}
 use Rattle.search.proofs.Leading.{rises}
 

@@ -13,7 +13,8 @@ use Rattle.routes.specs.declared.Step.{Step}
 use Rattle.search.specs.Gains.{shareOn, gainsFrom, NoneFreeOn, SafeOn}
 use Rattle.fairness.specs.Routes.{shouldGain}
 use Rattle.search.specs.declared.Search.{Search}
-use Rattle.search.specs.Searches.{taskAt, Gain}
+use Rattle.search.specs.Trails.{taskAt}
+use Rattle.search.specs.Searches.{Gain}
 use Rattle.search.specs.Chains.{Chain, Leads, RestSame}
 use Rattle.search.proofs.Shares.{not-own}
 use Rattle.search.proofs.Fewest.{fewest}

@@ -1,6 +1,6 @@
 -- A search keeps its order as it goes on: what is found and opened earlier leads on earlier.
 use Prim.Native.Nat.{ℕ, _+_, _≤_, _<_}
-use mathlib.Core.Path.{_≡_, sym, ap, _∙_}
+use mathlib.Core.Path.{_≡_, sym, _∙_}
 use mathlib.Core.Bool.{true, false}
 use mathlib.Core.Logic.{_⊎_, inl, inr}
 use native.Mathlib.Omega.{arith}
@@ -9,7 +9,9 @@ use Rattle.std.proofs.shelf.Lists.{getD-set-other}
 use Rattle.std.proofs.shelf.Tests.{cases-eq}
 use Rattle.board.specs.Meaning.{Meaning}
 use Rattle.search.specs.declared.Search.{Search}
-use Rattle.search.specs.Searches.{taskAt, throughAt, isFound, coreAt, openerAt, isOpened, reached, entered, Trail, Grown, OpenersTo, OpenBy, EarlyOpen, FoundBy, Gathered, GatheredTo, Layered, SweptTo}
+use Rattle.search.specs.Trails.{throughAt, isFound, coreAt, openerAt, isOpened, reached, entered, Trail, Grown}
+use Rattle.search.specs.Layers.{OpenersTo, EarlyOpen, FoundBy, Gathered, GatheredTo, Layered}
+use Rattle.search.specs.Searches.{SweptTo}
 use Rattle.search.proofs.Trails.{task-new, task-old, by-new, by-old, core-new, core-old, opener-new, opener-old}
 
 -- task k, not found yet, is found by the last opening

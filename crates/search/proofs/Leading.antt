@@ -9,7 +9,7 @@ use Rattle.std.proofs.shelf.Lists.{getD-take, length-take-le}
 use Rattle.std.proofs.shelf.Tests.{cases-lt, cases-eq}
 use Rattle.board.specs.Meaning.{Meaning}
 use Rattle.search.specs.declared.Search.{Search}
-use Rattle.search.specs.Searches.{taskAt, throughAt, coreAt, openerAt, Linked, Trail}
+use Rattle.search.specs.Trails.{taskAt, throughAt, coreAt, openerAt, Linked, Trail}
 use Rattle.routes.specs.declared.Step.{Step}
 use Rattle.fairness.specs.Routes.{Route}
 use Rattle.routes.specs.Routes.{noStep, taskOn, coreOn}

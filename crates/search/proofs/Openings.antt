@@ -8,7 +8,9 @@ use Rattle.std.proofs.shelf.Lists.{getD-set-other}
 use Rattle.std.proofs.shelf.Tests.{cases-eq}
 use Rattle.board.specs.Meaning.{Meaning, Sound}
 use Rattle.search.specs.declared.Search.{Search}
-use Rattle.search.specs.Searches.{isFound, coreAt, isOpened, reached, entered, Trail, CoveredTo, Grown, OpenersTo, GatheredTo, Layered, MayOpen, Opened}
+use Rattle.search.specs.Trails.{isFound, coreAt, isOpened, reached, entered, Trail, Grown}
+use Rattle.search.specs.Layers.{OpenersTo, GatheredTo, Layered}
+use Rattle.search.specs.Searches.{CoveredTo, MayOpen, Opened}
 use Rattle.search.proofs.Trails.{reached-trail, reached-grown, found-new, found-old, entered-trail, entered-grown, opened-new, core-new, grown-same, grown-on}
 use Rattle.search.proofs.Layers.{reached-layered, reached-gathered, skipped-gathered, entered-latest, entered-layered, entered-gathered}
 

@@ -14,7 +14,9 @@ use Rattle.fairness.specs.Laws.{Comparison}
 use Rattle.fairness.proofs.Sums.{sum-eq, sum-zero}
 use Rattle.board.specs.Meaning.{Meaning, Sound}
 use Rattle.search.specs.declared.Search.{Search}
-use Rattle.search.specs.Searches.{taskAt, isFound, reached, empty, Trail, SweptTo, EarlyOpen, Layered, Spread, Trying}
+use Rattle.search.specs.Trails.{taskAt, isFound, reached, empty, Trail}
+use Rattle.search.specs.Layers.{EarlyOpen, Layered}
+use Rattle.search.specs.Searches.{SweptTo, Spread, Trying}
 use Rattle.search.specs.Gains.{shareOn, gainsFrom, NoneFreeOn, SafeOn}
 use Rattle.search.proofs.Trails.{flag-more}
 use Rattle.search.proofs.Spreads.{swept-on}

@@ -7,7 +7,9 @@ use native.Mathlib.Omega.{arith}
 use borrow.Author.Count.{below-more}
 use Rattle.board.specs.Meaning.{Meaning}
 use Rattle.search.specs.declared.Search.{Search}
-use Rattle.search.specs.Searches.{taskAt, isOpened, SweptTo, Grown, OpenersTo, MayOpen, Opened, Complete, Spread}
+use Rattle.search.specs.Trails.{taskAt, isOpened, Grown}
+use Rattle.search.specs.Layers.{OpenersTo}
+use Rattle.search.specs.Searches.{SweptTo, MayOpen, Opened, Complete, Spread}
 use Rattle.search.proofs.Trails.{grown-same, grown-on}
 
 pub spread-none : (m : Meaning) (s : Search) (x : ℕ) → Complete m s → OpenersTo s x → Spread m s s x 0

@@ -13,7 +13,7 @@ use Rattle.fairness.specs.Sums.{sumTo}
 use Rattle.fairness.proofs.Sums.{sum-point, count-le}
 use Rattle.board.specs.Meaning.{Meaning}
 use Rattle.search.specs.declared.Search.{Search}
-use Rattle.search.specs.Searches.{taskAt, throughAt, isFound, coreAt, openerAt, isOpened, reached, entered, Trail, Grown}
+use Rattle.search.specs.Trails.{taskAt, throughAt, isFound, coreAt, openerAt, isOpened, reached, entered, Trail, Grown}
 
 -- one flag more
 pub flag-more : (n k : ℕ) (l : List Bool) → k < n → k < length l → getD l k false ≡ false

@@ -7,7 +7,9 @@ ghost use Rattle.board.specs.Boards.{Good};
 ghost use Rattle.search.specs.Gains.{shareOn, gainsFrom};
 ghost use Rattle.search.specs.Chains.{Chain, Leads, RestSame};
 ghost use Rattle.search.specs.Founds.{Searched};
-ghost use Rattle.search.specs.Searches.{Linked, OpenersTo, MayOpen, Opened, Complete, Spread, Sought, reached, entered, empty};
+ghost use Rattle.search.specs.Trails.{Linked, reached, entered, empty};
+ghost use Rattle.search.specs.Layers.{OpenersTo};
+ghost use Rattle.search.specs.Searches.{MayOpen, Opened, Complete, Spread, Sought};
 use board::Board;
 use board::MOST_CORES;
 use board::MOST_TASKS;
@@ -259,7 +261,7 @@ fn route_among<B: Board, R: Rule>(
 }
 
 // A route by which one slot makes the plan fairer, or none. It asks each task in turn whether it should gain, from `start` on and
-// round to it again, and fills the first entries of the list.
+// round to it again, and fills the first entries of the list. No route from that gainer to that loser is shorter.
 pub fn find_route<B: Board, R: Rule>(
     board: &B,
     rule: &R,

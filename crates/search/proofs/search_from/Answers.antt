@@ -3,7 +3,8 @@ use Rattle.fairness.specs.Laws.{Comparison}
 use Rattle.board.specs.Meaning.{Meaning}
 use Rattle.search.specs.declared.Search.{Search}
 use mathlib.Core.Bool.{true, false}
-use Rattle.search.specs.Searches.{Trying, reached, taskAt}
+use Rattle.search.specs.Trails.{reached, taskAt}
+use Rattle.search.specs.Searches.{Trying}
 use Rattle.search.proofs.Searches.{trying-start, trying-more, trying-all}
 use Rattle.search.proofs.Shares.{by-shares}
 use Rattle.search.proofs.search_from.Needs as need

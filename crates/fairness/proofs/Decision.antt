@@ -12,7 +12,7 @@ use Rattle.fairness.specs.Laws.{Comparison, Lawful, atMost}
 use Rattle.fairness.specs.Levels.{shareWith, shareOf, Fairest, Countable}
 use Rattle.fairness.specs.Routes.{Route, shouldGain}
 use Rattle.fairness.specs.Settled.{Safe}
-use Rattle.fairness.specs.Decision.{isFeasible, layer, isSafe, Fairest-decided, countAt, sameCounts, withTotal, allNear, isOnly, isRoute}
+use Rattle.fairness.specs.Decision.{isFeasible, layer, takesNone, losesNone, isSafe, Fairest-decided, countAt, sameCounts, withTotal, allNear, isOnly, isRoute}
 use Rattle.fairness.proofs.Sums.{sum-eq, all-from, all-has}
 use Rattle.fairness.proofs.Rules.{on-board-laws, on-board-rising}
 use Rattle.fairness.proofs.Levels.{cmp, fairest-on}
@@ -37,9 +37,7 @@ feasible-to n m need capacity held f =
 module _ (compare : Comparison) (n m : ℕ) (need : Plan) (capacity : ℕ → ℕ) (held : Plan) (task : ℕ) where
   -- what is asked of each task that is reached
   abbrev kept : ℕ → Bool
-  kept other =
-      allTo m (λ core. leb (need other core) (held other core) || leb (capacity core) (given n held core))
-      && (eqb (total m held other) 0 || not (shouldGain compare (shareOf m need held task) (shareOf m need held other)))
+  kept other = allTo m (takesNone n need capacity held other) && losesNone compare m need held task other
 
   safe-from : isSafe compare n m need capacity held task ≡ true → Safe compare n m need capacity held task
   safe-from h = record {
@@ -47,7 +45,7 @@ module _ (compare : Comparison) (n m : ℕ) (need : Plan) (capacity : ℕ → �
     closed = record {
       full = λ other core l u x less.
           elim (or-cases (leb (need other core) (held other core)) (leb (capacity core) (given n held core))
-          (all-has m (λ core. leb (need other core) (held other core) || leb (capacity core) (given n held core)) (parts other l x .0) core u)) [
+          (all-has m (takesNone n need capacity held other) (parts other l x .0) core u)) [
             | inl e ↦ absurd (omega (arith, leb-true _ _ e))
             | inr e ↦ leb-true _ _ e
           ];
@@ -67,8 +65,7 @@ module _ (compare : Comparison) (n m : ℕ) (need : Plan) (capacity : ℕ → �
       ]
 
       parts : (other : ℕ) → other < n → layer n m need held task n other ≡ true
-          → (allTo m (λ core. leb (need other core) (held other core) || leb (capacity core) (given n held core)) ≡ true)
-            × ((eqb (total m held other) 0 || not (shouldGain compare (shareOf m need held task) (shareOf m need held other))) ≡ true)
+          → (allTo m (takesNone n need capacity held other) ≡ true) × (losesNone compare m need held task other ≡ true)
       parts other l x = and-parts _ _ (reached other l x)
 
   safe-to : Lawful compare → Countable n m need → Fairest compare n m need capacity held → task < n → total m held task < total m need task

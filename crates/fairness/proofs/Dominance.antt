@@ -1,4 +1,4 @@
--- Threshold counting, and the layer sum.
+-- Threshold counting, and the stepsAbove sum.
 use Prim.Native.Nat.{ℕ, zero, suc, _-_, _≤_, _<_, min}
 use mathlib.Core.Path.{_≡_, refl, _∙_}
 use mathlib.Core.Bool.{Bool, true, false, cond, not}
@@ -9,7 +9,7 @@ use Rattle.std.proofs.shelf.Tests.{cases-lt, both-ways, not-true}
 use Rattle.fairness.specs.Sums.{sumTo}
 use Rattle.fairness.specs.Plans.{total, Feasible}
 use Rattle.fairness.proofs.Steps.{Capped, Falling, Held, worth}
-use Rattle.fairness.proofs.Sums.{sumIn, sum-le, sum-eq, sum-at, sum-split, sum-swap, in-le}
+use Rattle.fairness.proofs.Sums.{count-le, sumIn, sum-le, sum-eq, sum-at, sum-split, sum-swap, in-le}
 use Rattle.fairness.proofs.Tight.{tight}
 use Rattle.fairness.proofs.Fronts.{falls, front-closed, front-own, front-last}
 
@@ -35,23 +35,19 @@ sum-past s (suc t) f h = elim (cases-lt t s) [
   | inr l ↦ omega (arith, sum-past s t f (λ k u v. h k u (omega arith)), h t l (omega arith))
 ]
 
-count-le : (v t : ℕ) (f : ℕ → ℕ) → sumTo t (λ k. above v (f k)) ≤ t
-count-le v zero f = omega arith
-count-le v (suc t) f = grind (arith, count-le v t f)
-
 count-all : (v t : ℕ) (f : ℕ → ℕ) → ((k : ℕ) → k < t → v < f k) → sumTo t (λ k. above v (f k)) ≡ t
 count-all v zero f h = refl
 count-all v (suc t) f h = grind (arith, count-all v t f (λ k l. h k (omega arith)), h t (omega arith))
 
 -- the steps above v
-abbrev layer : ℕ → (ℕ → ℕ → ℕ) → ℕ → (ℕ → ℕ) → ℕ
-layer n g v t = sumTo n (λ i. sumTo (t i) (λ k. above v (g i k)))
+abbrev stepsAbove : ℕ → (ℕ → ℕ → ℕ) → ℕ → (ℕ → ℕ) → ℕ
+stepsAbove n g v t = sumTo n (λ i. sumTo (t i) (λ k. above v (g i k)))
 
 threshold : (n v : ℕ) (g : ℕ → ℕ → ℕ) (ta tb : ℕ → ℕ) (r : ℕ → Bool)
     → sumIn n r tb ≤ sumIn n r ta
     → ((i k : ℕ) → i < n → r i ≡ true → k < ta i → v < g i k)
     → ((i k : ℕ) → i < n → r i ≡ false → ta i ≤ k → k < tb i → g i k ≤ v)
-    → layer n g v tb ≤ layer n g v ta
+    → stepsAbove n g v tb ≤ stepsAbove n g v ta
 threshold n v g ta tb r le inner outer =
     let A : ℕ → ℕ = λ i. sumTo (ta i) (λ k. above v (g i k)) in
     let B : ℕ → ℕ = λ i. sumTo (tb i) (λ k. above v (g i k)) in
@@ -60,14 +56,14 @@ threshold n v g ta tb r le inner outer =
       le,
       sum-split n r A,
       sum-split n r B,
-      in-le n r B tb (λ i l x. count-le v (tb i) (g i)),
+      in-le n r B tb (λ i l x. count-le (tb i) (λ k. ltb v (g i k))),
       in-le n r ta A (λ i l x. omega (arith, count-all v (ta i) (g i) (λ k u. inner i k l x u))),
       in-le n (λ i. not (r i)) B A (λ i l x. sum-past (ta i) (tb i) _ (λ k u w. grind (arith, outer i k l (not-true _ x) u w))),
     )
 
--- a sum of g's, layer by layer
+-- a sum of g's, stepsAbove by stepsAbove
 by-layers : (n M : ℕ) (g : ℕ → ℕ → ℕ) (t : ℕ → ℕ) → ((i k : ℕ) → i < n → k < t i → g i k ≤ M)
-    → worth n g t ≡ sumTo M (λ v. layer n g v t)
+    → worth n g t ≡ sumTo M (λ v. stepsAbove n g v t)
 by-layers n M g t h =
     sum-eq n _ _ (λ i l. sum-eq (t i) _ _ (λ k u. omega (arith, layer-min M (g i k), h i k l u)) ∙ sum-swap (t i) M (λ k v. above v (g i k)))
     ∙ sum-swap n M (λ i v. sumTo (t i) (λ k. above v (g i k)))
@@ -84,7 +80,7 @@ dominance n m d c cap g a b r fa fb ca cb fall held =
     bound : (t : ℕ → ℕ) → ((i : ℕ) → i < n → t i ≤ cap i) → (i k : ℕ) → i < n → k < t i → g i k ≤ sumTo n (λ i. sumTo (cap i) (g i))
     bound t h i k l u = omega (arith, sum-at (cap i) k (g i) (omega (arith, h i l)), sum-at n i (λ i. sumTo (cap i) (g i)) l)
 
-    at : (v : ℕ) → layer n g v (total m b) ≤ layer n g v (total m a)
+    at : (v : ℕ) → stepsAbove n g v (total m b) ≤ stepsAbove n g v (total m a)
     at v = threshold n v g (total m a) (total m b) _
         (tight n m d c a b _ fa fb (front-closed n m d c cap g a r held (suc v)))
         (λ i k l x u. omega (

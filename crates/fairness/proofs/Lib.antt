@@ -23,3 +23,4 @@ pub mod Theorems
 pub mod Sorting
 pub mod Lexicographic
 pub mod Decision
+pub mod Readings

@@ -26,9 +26,9 @@ differ n x z k = elim (first-cases k (λ r. not (eqb (upTo n x r) (upTo n z r)))
   | inr f ↦ inr (λ r l. eqb-true _ _ (not-false _ (f r l)))
 ]
 
-counted : (cmp : Compare) (laws : Laws cmp) (n h : ℕ) (t : ℕ → ℕ) (tl : (i : ℕ) → i < n → t i < h)
+counts-at : (cmp : Compare) (laws : Laws cmp) (n h : ℕ) (t : ℕ → ℕ) (tl : (i : ℕ) → i < n → t i < h)
     → (k y q : ℕ) → rank cmp n h k y ≡ q → atOrBelow cmp n t k y ≡ upTo n (ranks cmp n h t) q
-counted cmp laws n h t tl k y q e = counts cmp laws n h t tl k y ∙ ap (upTo n (ranks cmp n h t)) e
+counts-at cmp laws n h t tl k y q e = counts cmp laws n h t tl k y ∙ ap (upTo n (ranks cmp n h t)) e
 
 module _ (cmp : Compare) (laws : Laws cmp) (n h : ℕ) (t u : ℕ → ℕ) (tl : (i : ℕ) → i < n → t i < h) (ul : (i : ℕ) → i < n → u i < h) where
   -- at a lower rank that a level has
@@ -38,8 +38,8 @@ module _ (cmp : Compare) (laws : Laws cmp) (n h : ℕ) (t u : ℕ → ℕ) (tl :
       omega (
         arith,
         f .lower k y l o (rank-below cmp laws n h k y (f .who) (f .what) (omega arith)),
-        counted cmp laws n h t tl k y q e,
-        counted cmp laws n h u ul k y q e,
+        counts-at cmp laws n h t tl k y q e,
+        counts-at cmp laws n h u ul k y q e,
       )
 
   had-falls : Fairer-had cmp n t u → pot cmp n h t < pot cmp n h u
@@ -69,7 +69,7 @@ module _ (cmp : Compare) (laws : Laws cmp) (n h : ℕ) (t u : ℕ → ℕ) (tl :
     what = y;
     one = l;
     had = had;
-    fewer = omega (arith, counted cmp laws n h t tl k y r e, counted cmp laws n h u ul k y r e);
+    fewer = omega (arith, counts-at cmp laws n h t tl k y r e, counts-at cmp laws n h u ul k y r e);
     lower = λ i x w b.
         omega (arith, counts cmp laws n h t tl i x, counts cmp laws n h u ul i x, below (rank cmp n h i x) (omega (arith, below-rank cmp laws n h i x k y l v b)));
   }

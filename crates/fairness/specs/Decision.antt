@@ -24,12 +24,18 @@ layer n m need held first zero task = eqb task first
 layer n m need held first (suc steps) task =
     layer n m need held first steps task || someTo n (λ before. layer n m need held first steps before && leads m need held before task)
 
--- among the tasks that it reaches, none could take a free slot, and none should lose one to it
+-- a task cannot take a free slot of a core: it has what it needs, or the core has none
+abbrev pub takesNone : ℕ → Plan → (ℕ → ℕ) → Plan → ℕ → ℕ → Bool
+takesNone n need capacity held task core = leb (need task core) (held task core) || leb (capacity core) (given n held core)
+
+-- the other task should lose no slot to the task: it has none, or the test fails
+abbrev pub losesNone : Comparison → ℕ → Plan → Plan → ℕ → ℕ → Bool
+losesNone compare m need held task other = eqb (total m held other) 0 || not (shouldGain compare (shareOf m need held task) (shareOf m need held other))
+
+-- no task that is reached could take a free slot or should lose one to it
 abbrev pub isSafe : Comparison → ℕ → ℕ → Plan → (ℕ → ℕ) → Plan → ℕ → Bool
 isSafe compare n m need capacity held task = allTo n (λ other.
-  not (layer n m need held task n other)
-  || (allTo m (λ core. leb (need other core) (held other core) || leb (capacity core) (given n held core))
-  && (eqb (total m held other) 0 || not (shouldGain compare (shareOf m need held task) (shareOf m need held other)))))
+  not (layer n m need held task n other) || (allTo m (takesNone n need capacity held other) && losesNone compare m need held task other))
 
 abbrev pub isFairest : Comparison → ℕ → ℕ → Plan → (ℕ → ℕ) → Plan → Bool
 isFairest compare n m need capacity held =

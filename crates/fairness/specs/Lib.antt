@@ -1,6 +1,7 @@
 pub mod Theorems
 pub mod Lexicographic
 pub mod Decision
+pub mod Readings
 pub mod Settled
 pub mod Routes
 pub mod Moves

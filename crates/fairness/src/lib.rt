@@ -1,6 +1,7 @@
 // What a rule of shares sees of a task, and what it answers; and the theorems on fairest plans, each named by a function's contract.
 ghost use Rattle.fairness.specs.Theorems.{Settled-fairest, Fairest-settled, Free-slot-fairer, Exchange-fairer, Fairest-exactly, Fairest-same-levels, Fairest-within-one, Levelling-ends};
 ghost use Rattle.fairness.specs.Decision.{Fairest-decided};
+ghost use Rattle.fairness.specs.Readings.{Readings-agree};
 ghost use Rattle.fairness.specs.Lexicographic.{Even-lexicographic};
 
 // What a rule is told of a task: its number, the sum of its needs and the sum of its slots over all cores.
@@ -85,6 +86,13 @@ pub fn even_is_lexicographic() -> u8
 // A computation tells the fairest plans from the others.
 pub fn fairest_is_decided() -> u8
     ensures { λ _. ⌜ Fairest-decided ⌝ }
+{
+    0
+}
+
+// Fairer by all lower levels is the same as fairer by those that a task has in either plan.
+pub fn readings_agree() -> u8
+    ensures { λ _. ⌜ Readings-agree ⌝ }
 {
     0
 }

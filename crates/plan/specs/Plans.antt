@@ -1,9 +1,12 @@
 -- What a plan is between its calls, and what a set call makes of it.
 use mathlib.Core.Path.{_≡_}
+use mathlib.Core.List.{List}
+use Prim.Native.Nat.{ℕ, _<_}
+use lib.ListN.{length, getD}
 use Rattle.std.specs.declared.result.Result.{Result}
 use Rattle.fairness.specs.Laws.{Comparison}
 use Rattle.board.specs.declared.fault.Fault.{Fault}
-use Rattle.board.specs.Meaning.{Meaning, SameOrder}
+use Rattle.board.specs.Meaning.{Meaning, SameOrder, mostTasks, totalOf}
 use Rattle.board.specs.Outcomes.{Outcome, answered, after}
 use Rattle.board.specs.Boards.{Good, UnlessDone}
 use Rattle.levelling.specs.Levelled.{FairestOn}
@@ -30,3 +33,8 @@ pub record Replanned {S : Type 0} (meaning : S → Meaning) (ready : S → Type 
   pub unchanged : UnlessDone outcome (b ≡ a)
   -- and a number that is set to what it is moves nothing either
   pub still : after (meaning a) outcome ≡ meaning a → b ≡ a
+
+-- a list of all totals, by the tasks' numbers
+pub record Totals (m : Meaning) (totals : List ℕ) : Type 0 where
+  pub long : length totals ≡ mostTasks
+  pub each : (task : ℕ) → task < mostTasks → getD totals task 0 ≡ totalOf m task

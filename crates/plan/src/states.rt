@@ -4,12 +4,13 @@ ghost use denote.Ref.{name};
 ghost use Rattle.board.specs.Meaning.{totalOf, freeSlots};
 ghost use Rattle.board.specs.Boards.{Good};
 ghost use Rattle.plan.specs.Changes.{planNeed, planCapacity};
-ghost use Rattle.plan.specs.Plans.{Standing, Planned, Replanned};
+ghost use Rattle.plan.specs.Plans.{Standing, Planned, Replanned, Totals};
 use crate::changes::change_capacity;
 use crate::changes::change_need;
 use crate::changes::test_capacity;
 use crate::changes::test_need;
 use board::Board;
+use board::MOST_TASKS;
 use board::fault::Fault;
 use rules::Rule;
 use table_levelling::level_on_table;
@@ -87,6 +88,25 @@ impl<'a, B: Board, R: Rule> WorkingPlan<'a, B, R> {
         ensures { λ r. ⌜ r ≡ freeSlots (meaning (now (now (self .entry) .board))) ⌝ }
     {
         self.board.free_slots()
+    }
+
+    // The totals of all tasks, by their numbers; 0 past the last task.
+    pub fn totals(&self) -> [u32; MOST_TASKS]
+        requires { ⌜ Standing meaning ready (order (now self .rule)) (now (now self .board)) ⌝ }
+        ensures { λ r. ⌜ Totals (meaning (now (now (self .entry) .board))) r ⌝ }
+    {
+        let mut totals = [0; MOST_TASKS];
+        for task in 0..MOST_TASKS {
+            totals[task] = self.board.total(task);
+        }
+        totals
+    }
+
+    // Ends the plan; its board stays as it is.
+    pub fn end(self)
+        ensures { λ _. ⌜ now (self .exit .0) ≡ now (self .entry .board) ⌝ }
+    {
+        let WorkingPlan { board: _, rule: _ } = self;
     }
 
     pub fn release(self) -> ReleasedPlan<'a, B, R>

@@ -1,5 +1,9 @@
 // Boards of three builds put to the same tests; one of them, with a row for each core, is plain and stands only here.
-ghost use Rattle.board.specs.Boards.{Good};
+ghost use mathlib.Core.Path.{_≡_};
+ghost use Prim.Native.Nat.{_*_, min};
+ghost use lib.ListN.{drop, length};
+ghost use Rattle.board.specs.Boards.{Good, Went};
+ghost use Rattle.table_board.specs.Cells.{numbers};
 
 pub mod row_board;
 #[cfg(test)]
@@ -7,6 +11,11 @@ mod tests;
 
 use board::Board;
 use board::fault::Fault;
+use pair_board::PairBoard;
+use pair_board::PairIsBoard;
+use pair_board::entry::Entry;
+use table_board::TableBoard;
+use table_board::TableIsBoard;
 
 #[derive(Clone, Copy)]
 pub enum Change {
@@ -17,7 +26,7 @@ pub enum Change {
 
 pub fn apply<B: Board>(board: &mut B, change: Change) -> Result<(), Fault>
     requires { ⌜ Good meaning ready (now board) ⌝ }
-    ensures { λ _. ⌜ Good meaning ready (now (board .exit)) ⌝ }
+    ensures { λ _. ⌜ Went meaning ready kept (now (board .entry)) (now (board .exit)) ⌝ }
 {
     match change {
         Change::Need(task, core, amount) => board.set_need(task, core, amount),
@@ -37,7 +46,7 @@ pub fn number(told: Result<(), Fault>) -> u8 {
 // Makes the changes one by one, until one is not told what is expected: the number of a refusal, or 0.
 pub fn first_surprise<B: Board>(board: &mut B, steps: &[(Change, u8)]) -> Option<usize>
     requires { ⌜ Good meaning ready (now board) ⌝ }
-    ensures { λ _. ⌜ Good meaning ready (now (board .exit)) ⌝ }
+    ensures { λ _. ⌜ Went meaning ready kept (now (board .entry)) (now (board .exit)) ⌝ }
 {
     for (at, step) in steps.iter().enumerate() {
         let (change, expected) = *step;
@@ -46,4 +55,30 @@ pub fn first_surprise<B: Board>(board: &mut B, steps: &[(Change, u8)]) -> Option
         }
     }
     None
+}
+
+// Whatever is changed on a table board, its lender finds the numbers past it as they were.
+pub fn in_lent_numbers(
+    n: usize,
+    m: usize,
+    cells: &mut [u16],
+    steps: &[(Change, u8)],
+) -> Option<usize>
+    ensures { λ _. ⌜ drop (numbers n m) (now (cells .exit)) ≡ drop (numbers n m) (now (cells .entry)) ⌝ }
+{
+    let mut board = TableBoard::make(n, m, cells);
+    first_surprise(&mut board, steps)
+}
+
+// And the lender of a pair board's list finds the entries past what the board may use.
+pub fn in_lent_entries(
+    n: usize,
+    m: usize,
+    entries: &mut [Entry],
+    steps: &[(Change, u8)],
+) -> Option<usize>
+    ensures { λ _. ⌜ drop (min (length (now (entries .entry))) (n * m)) (now (entries .exit)) ≡ drop (min (length (now (entries .entry))) (n * m)) (now (entries .entry)) ⌝ }
+{
+    let mut board = PairBoard::make(n, m, entries);
+    first_surprise(&mut board, steps)
 }

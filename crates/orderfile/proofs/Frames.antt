@@ -22,8 +22,8 @@ frame-capacity : (m : Meaning) (c amount : ℕ) → Framed m (setCapacity m c am
 frame-capacity m c amount =
     let last : Outcome = cond (ltb amount (givenAt m c)) (refused CoreOverCapacity) (done (withCapacity m c amount)) in
     unless m (leb (m .cores) c) NoSuchTaskOrCore (cond (ltb (m .greatest-capacity c) amount) (refused AmountTooLarge) last)
-      (unless m (ltb (m .greatest-capacity c) amount) AmountTooLarge last
-        (unless m (ltb amount (givenAt m c)) CoreOverCapacity (done (withCapacity m c amount)) refl))
+    (unless m (ltb (m .greatest-capacity c) amount) AmountTooLarge last
+    (unless m (ltb amount (givenAt m c)) CoreOverCapacity (done (withCapacity m c amount)) refl))
 
 frame-need : (m : Meaning) (t c amount : ℕ) → Framed m (setNeed m t c amount)
 frame-need m t c amount =
@@ -31,16 +31,16 @@ frame-need m t c amount =
     let last : Outcome = cond pairs (refused NoPairLeft) (done (withNeed m t c amount)) in
     let under : Outcome = cond (ltb amount (m .held t c)) (refused SlotsOverNeed) last in
     unless m (leb (m .tasks) t || leb (m .cores) c) NoSuchTaskOrCore (cond (ltb mostSlots amount) (refused AmountTooLarge) under)
-      (unless m (ltb mostSlots amount) AmountTooLarge under
-        (unless m (ltb amount (m .held t c)) SlotsOverNeed last
-          (unless m pairs NoPairLeft (done (withNeed m t c amount)) refl)))
+    (unless m (ltb mostSlots amount) AmountTooLarge under
+    (unless m (ltb amount (m .held t c)) SlotsOverNeed last
+    (unless m pairs NoPairLeft (done (withNeed m t c amount)) refl)))
 
 frame-held : (m : Meaning) (t c amount : ℕ) → Framed m (setHeld m t c amount)
 frame-held m t c amount =
     let last : Outcome = cond (ltb (m .capacity c) (givenAt (withHeld m t c amount) c)) (refused CoreOverCapacity) (done (withHeld m t c amount)) in
     unless m (leb (m .tasks) t || leb (m .cores) c) NoSuchTaskOrCore (cond (ltb (m .need t c) amount) (refused SlotsOverNeed) last)
-      (unless m (ltb (m .need t c) amount) SlotsOverNeed last
-        (unless m (ltb (m .capacity c) (givenAt (withHeld m t c amount) c)) CoreOverCapacity (done (withHeld m t c amount)) refl))
+    (unless m (ltb (m .need t c) amount) SlotsOverNeed last
+    (unless m (ltb (m .capacity c) (givenAt (withHeld m t c amount) c)) CoreOverCapacity (done (withHeld m t c amount)) refl))
 
 pub frame-by : (said : Said) (m : Meaning) → cleared (boardBy said m) ≡ cleared m
 frame-by head m = refl

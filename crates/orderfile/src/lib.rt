@@ -7,12 +7,15 @@ ghost use Rattle.sections.specs.Lines.{saidBy};
 ghost use Rattle.orderfile.specs.Sizes.{sizesOf};
 ghost use Rattle.orderfile.specs.Steps.{Applied, Took, reading};
 ghost use Rattle.orderfile.specs.Reads.{Filled, Read, readOf, orderOf, runFrom};
-use board::fault::{Fault, Refusal};
 use board::Board;
+use board::fault::Fault;
+use board::fault::Refusal;
+use records::Record;
+use records::Records;
 use records::kind::Kind;
-use records::{Record, Records};
 use sections::head_fields;
-use sections::state::{Line, Reader};
+use sections::state::Line;
+use sections::state::Reader;
 use tasks::table::TaskTable;
 
 // The letter, the number of tasks and the number of cores that the file's first record tells.
@@ -22,11 +25,11 @@ pub fn sizes(file: &[u8]) -> Result<(u8, u8, u8), Fault>
     let mut records = Records::open(file)?;
     let first = records.next()?;
     let Kind::Head = first.kind else {
-        return Err(Fault { refusal: Refusal::KindOutOfTurn, place: first.place });
+        return Err(Refusal::KindOutOfTurn.at(first.place));
     };
     match head_fields(first.body) {
         Ok(head) => Ok((head.letter, head.tasks, head.cores)),
-        Err(refusal) => Err(Fault { refusal, place: first.place }),
+        Err(refusal) => Err(refusal.at(first.place)),
     }
 }
 
@@ -79,7 +82,13 @@ fn apply<B: Board>(line: Line<'_>, board: &mut B, tasks: &mut TaskTable) -> Resu
 }
 
 // Takes in one record, after `seen` others; a fault's place is the record's, whoever refuses it.
-fn take<B: Board>(reader: &mut Reader, found: Record<'_>, seen: usize, board: &mut B, tasks: &mut TaskTable) -> Result<(), Fault>
+fn take<B: Board>(
+    reader: &mut Reader,
+    found: Record<'_>,
+    seen: usize,
+    board: &mut B,
+    tasks: &mut TaskTable,
+) -> Result<(), Fault>
     requires { ⌜ Good meaning ready (now board) ⌝ }
     ensures { λ r. ⌜ Took meaning ready kept (now (board .entry)) (now (board .exit)) (reading (now (reader .entry)) seen (meaning (now (board .entry))) (rows (now (tasks .entry)))) (plain (found .entry)) (now (reader .exit)) (rows (now (tasks .exit))) r ⌝ }
 {
@@ -87,7 +96,10 @@ fn take<B: Board>(reader: &mut Reader, found: Record<'_>, seen: usize, board: &m
     match reader.line(found, seen) {
         Ok(line) => match apply(line, board, tasks) {
             Ok(()) => Ok(()),
-            Err(fault) => Err(Fault { refusal: fault.refusal, place }),
+            Err(fault) => Err(Fault {
+                refusal: fault.refusal,
+                place,
+            }),
         },
         Err(refusal) => Err(Fault { refusal, place }),
     }

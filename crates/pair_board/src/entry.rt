@@ -8,3 +8,11 @@ pub struct Entry {
     pub need: u16,
     pub held: u16,
 }
+
+// What a list may be filled with before it is lent: a board reads no entry that it has not written.
+pub const BLANK: Entry = Entry {
+    task: 0,
+    core: 0,
+    need: 0,
+    held: 0,
+};

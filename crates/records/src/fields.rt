@@ -37,7 +37,11 @@ pub fn head_line(body: &[u8]) -> Option<HeadLine>
     let &[letter, tasks, cores] = body else {
         return None;
     };
-    Some(HeadLine { letter, tasks, cores })
+    Some(HeadLine {
+        letter,
+        tasks,
+        cores,
+    })
 }
 
 pub fn core_line(body: &[u8]) -> Option<CoreLine>
@@ -46,7 +50,10 @@ pub fn core_line(body: &[u8]) -> Option<CoreLine>
     let &[core, low, high] = body else {
         return None;
     };
-    Some(CoreLine { core, capacity: u16::from_le_bytes([low, high]) })
+    Some(CoreLine {
+        core,
+        capacity: u16::from_le_bytes([low, high]),
+    })
 }
 
 pub fn task_line(body: &[u8]) -> Option<TaskLine<'_>>
@@ -55,7 +62,11 @@ pub fn task_line(body: &[u8]) -> Option<TaskLine<'_>>
     if body.len() < 3 || body.len() > 14 {
         return None;
     }
-    Some(TaskLine { task: body[0], weight: body[1], name: &body[2..body.len()] })
+    Some(TaskLine {
+        task: body[0],
+        weight: body[1],
+        name: &body[2..body.len()],
+    })
 }
 
 pub fn pair_line(body: &[u8]) -> Option<PairLine>
@@ -64,7 +75,11 @@ pub fn pair_line(body: &[u8]) -> Option<PairLine>
     let &[task, core, low, high] = body else {
         return None;
     };
-    Some(PairLine { task, core, amount: u16::from_le_bytes([low, high]) })
+    Some(PairLine {
+        task,
+        core,
+        amount: u16::from_le_bytes([low, high]),
+    })
 }
 
 // The number of records that an end record tells.

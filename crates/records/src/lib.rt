@@ -4,10 +4,12 @@ ghost use Prim.Native.Nat.{_+_, _<_};
 ghost use lib.ListN.{length};
 ghost use Rattle.records.specs.Wire.{wordAt, lengthAt, kindOf};
 ghost use Rattle.records.specs.Cuts.{opened, openOf, cutOf, cutAt, placeAfter, finishAt};
-use board::fault::{Fault, Refusal};
+use board::fault::Fault;
+use board::fault::Refusal;
 
 pub mod fields;
 pub mod kind;
+
 use kind::Kind;
 
 // No order has a longer file: 64 tasks with names of 12 bytes, 16 cores, and a need and slots for each pair.
@@ -34,7 +36,7 @@ impl<'a> Records<'a> {
         ensures { λ r. ⌜ opened r ≡ openOf (now (file .entry)) ⌝ }
     {
         if file.len() > LONGEST_FILE {
-            return Err(Fault { refusal: Refusal::FileTooLong, place: 0 });
+            return Err(Refusal::FileTooLong.at(0));
         }
         Ok(Records { file, at: 0 })
     }
@@ -48,14 +50,18 @@ impl<'a> Records<'a> {
         let file = self.file;
         let place = self.at;
         let Some(length) = length_at(file, place) else {
-            return Err(Fault { refusal: Refusal::RecordCutShort, place });
+            return Err(Refusal::RecordCutShort.at(place));
         };
         let Some(kind) = kind_of(word_at(file, place + 2)) else {
-            return Err(Fault { refusal: Refusal::UnknownKind, place });
+            return Err(Refusal::UnknownKind.at(place));
         };
         let end = place + 2 + length;
         self.at = end;
-        Ok(Record { kind, body: &file[place + 4..end], place })
+        Ok(Record {
+            kind,
+            body: &file[place + 4..end],
+            place,
+        })
     }
 
     // Nothing may follow the last record.
@@ -63,7 +69,7 @@ impl<'a> Records<'a> {
         ensures { λ r. ⌜ r ≡ finishAt (now (self .entry .file)) (self .entry .at) ⌝ }
     {
         if self.at < self.file.len() {
-            return Err(Fault { refusal: Refusal::BytesAfterEnd, place: self.at });
+            return Err(Refusal::BytesAfterEnd.at(self.at));
         }
         Ok(())
     }

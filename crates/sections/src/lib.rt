@@ -5,16 +5,30 @@ ghost use Rattle.records.specs.Cuts.{plain};
 ghost use Rattle.sections.specs.Letters.{headTest};
 ghost use Rattle.sections.specs.Turns.{start, headTold, coreTold, taskTold, taskToldOf, pairTold, endTold, headLeft, coreLeft, taskLeft, pairLeft, endLeft, follows, isEnded};
 ghost use Rattle.sections.specs.Lines.{lineOf, lineLeft, saidOf};
+use board::MOST_CORES;
+use board::MOST_SLOTS;
+use board::MOST_TASKS;
 use board::fault::Refusal;
-use board::{MOST_CORES, MOST_SLOTS, MOST_TASKS};
-use records::fields::{core_line, head_line, pair_line, record_count, task_line, CoreLine, HeadLine, PairLine, TaskLine};
-use records::kind::Kind;
 use records::Record;
+use records::fields::CoreLine;
+use records::fields::HeadLine;
+use records::fields::PairLine;
+use records::fields::TaskLine;
+use records::fields::core_line;
+use records::fields::head_line;
+use records::fields::pair_line;
+use records::fields::record_count;
+use records::fields::task_line;
+use records::kind::Kind;
 
 pub mod letter;
 pub mod state;
+
 use letter::sharing_of;
-use state::{Line, Pair, Reader, Section};
+use state::Line;
+use state::Pair;
+use state::Reader;
+use state::Section;
 
 // The head's letter and sizes, if an order can have them.
 pub fn head_fields(body: &[u8]) -> Result<HeadLine, Refusal>
@@ -26,7 +40,11 @@ pub fn head_fields(body: &[u8]) -> Result<HeadLine, Refusal>
     let Some(_) = sharing_of(head.letter) else {
         return Err(Refusal::ValueOutOfBounds);
     };
-    if head.tasks < 1 || head.tasks as usize > MOST_TASKS || head.cores < 1 || head.cores as usize > MOST_CORES {
+    if head.tasks < 1
+        || head.tasks as usize > MOST_TASKS
+        || head.cores < 1
+        || head.cores as usize > MOST_CORES
+    {
         return Err(Refusal::ValueOutOfBounds);
     }
     Ok(head)
@@ -37,7 +55,15 @@ impl Reader {
     pub fn new(tasks: usize, cores: usize) -> Reader
         ensures { λ r. ⌜ r ≡ start tasks cores ⌝ }
     {
-        Reader { section: Section::Head, letter: 0, tasks, cores, core: 0, task: 0, last: None }
+        Reader {
+            section: Section::Head,
+            letter: 0,
+            tasks,
+            cores,
+            core: 0,
+            task: 0,
+            last: None,
+        }
     }
 
     pub fn ended(&self) -> bool
@@ -136,8 +162,14 @@ impl Reader {
         let Some(line) = pair_line(body) else {
             return Err(Refusal::WrongLength);
         };
-        let pair = Pair { task: line.task, core: line.core };
-        if line.task as usize >= self.tasks || line.core as usize >= self.cores || !is_after(pair, self.last) {
+        let pair = Pair {
+            task: line.task,
+            core: line.core,
+        };
+        if line.task as usize >= self.tasks
+            || line.core as usize >= self.cores
+            || !is_after(pair, self.last)
+        {
             return Err(Refusal::NumberOutOfTurn);
         }
         if line.amount < 1 || line.amount > MOST_SLOTS {
@@ -167,7 +199,8 @@ fn is_after(pair: Pair, last: Option<Pair>) -> bool
     ensures { λ r. ⌜ r ≡ follows pair last ⌝ }
 {
     match last {
-        Some(before) => before.task < pair.task || before.task == pair.task && before.core < pair.core,
+        Some(before) => before.task < pair.task
+            || before.task == pair.task && before.core < pair.core,
         None => true,
     }
 }

@@ -1,11 +1,14 @@
 -- The report's lines as bytes: 32 is the blank, 10 the end of a line.
 use mathlib.Core.Bool.{cond}
 use mathlib.Core.List.{List, [], _∷_, _++_}
-use Prim.Native.Nat.{ℕ, _-_, _*_, _/_, _%_}
+use Prim.Native.Nat.{ℕ, zero, suc, _+_, _-_, _*_, _/_, _%_}
 use lib.Chars.{codes}
 use lib.Dec.{eqb}
-use lib.ListN.{length, replicate}
+use lib.ListN.{length, replicate, getD}
 use Rattle.std.specs.Written.{decimal}
+use Rattle.fairness.specs.Sums.{sumTo}
+use Rattle.tasks.specs.Rows.{Row}
+use Rattle.tasks.specs.Table.{nameIn}
 
 -- a text at the left of a field, or at its right; one that is longer than the field is left whole
 abbrev pub leftIn : ℕ → List ℕ → List ℕ
@@ -28,6 +31,19 @@ taskLine name total slots = leftIn 12 name ++ (rightIn 6 (decimal total) ++ (rig
 
 abbrev pub freeLine : ℕ → List ℕ
 freeLine free = leftIn 12 (codes "free") ++ (rightIn 6 (decimal free) ++ 10 ∷ [])
+
+-- the slots of all cores: what the tasks hold, and what is free
+abbrev pub slotsOf : List ℕ → ℕ → ℕ → ℕ
+slotsOf totals count free = free + sumTo count (λ task. getD totals task 0)
+
+-- the lines of the tasks below the bound
+abbrev pub taskLines : List Row → List ℕ → ℕ → ℕ → List ℕ
+taskLines rows totals slots zero = []
+taskLines rows totals slots (suc task) = taskLines rows totals slots task ++ taskLine (nameIn rows task) (getD totals task 0) slots
+
+-- the whole report
+abbrev pub reportLines : List Row → List ℕ → ℕ → List ℕ
+reportLines rows totals free = taskLines rows totals (slotsOf totals (length rows) free) (length rows) ++ freeLine free
 
 abbrev pub refusalLine : ℕ → ℕ → ℕ → List ℕ
 refusalLine number layer place =

@@ -7,18 +7,21 @@ ghost use Rattle.std.specs.Vec.{refused};
 ghost use Rattle.std.specs.shelf.Text.{sameBytes};
 ghost use Rattle.tasks.specs.Rows.{nameOf, rowOf, row, goodName, printableName, taken};
 ghost use Rattle.tasks.specs.Table.{rows, pushWhy, pushAnswer, pushAfter};
-use board::fault::{Fault, Refusal};
+use board::fault::Fault;
+use board::fault::Refusal;
 
 pub mod entries;
 pub mod reads;
 pub mod table;
 pub mod task;
+
 use entries::Entries;
 use reads::name_of;
 use table::TaskTable;
 use task::Task;
 
 pub const LONGEST_NAME: usize = 12;
+
 pub const MOST_WEIGHT: u8 = 100;
 
 impl Entries {
@@ -36,8 +39,15 @@ impl TaskTable {
     pub fn new() -> TaskTable
         ensures { λ r. ⌜ rows r ≡ [] ⌝ }
     {
-        let none = Task { weight: 1, name: [0; 12], length: 0 };
-        TaskTable { entries: Entries { tasks: [none; 64] }, count: 0 }
+        let none = Task {
+            weight: 1,
+            name: [0; 12],
+            length: 0,
+        };
+        TaskTable {
+            entries: Entries { tasks: [none; 64] },
+            count: 0,
+        }
     }
 
     pub fn clear(&mut self)
@@ -126,5 +136,9 @@ fn task_of(weight: u8, name: &[u8]) -> Task
 {
     let mut bytes = [0; 12];
     bytes[0..name.len()].copy_from_slice(name);
-    Task { weight, name: bytes, length: name.len() as u8 }
+    Task {
+        weight,
+        name: bytes,
+        length: name.len() as u8,
+    }
 }

@@ -12,8 +12,7 @@ use Rattle.orderfile.proofs.read_records.Needs as need
 
 pub loop-records-holds : need.loop-records-holds
 loop-records-holds g c =
-    let b = g .B·Board in
-    (
+    let b = g .B·Board in (
       record { frame = refl; good = c .pre; keeps = b .keeping .same (c .args .board .now) },
       begin (b .meaning (c .args .board .now)) (rows (c .args .tasks .now)) (c .args .file .now) (walkOf (c .in-Continue-records .records)) (c .new-reader .result) (c .in-Continue-records .ensures tt)
           (c .new-reader .ensures ∙ (λ i. start (c .tasks .ensures i) (c .cores .ensures i))),
@@ -30,8 +29,7 @@ loop-records-again g c =
     let walked = c .in-Continue-found .ensures tt in
     let taken = c .take .ensures in
     let next = more whole s (at .records .file .now) (at .records .at) cut (c .take .last .reader) (b .meaning (c .take .last .board)) (rows (c .take .last .tasks)) (at .inv .1)
-        (sym (c .loop-records-test .ensures tt)) (sym (walked .answer)) (sym (c .in-Continue-take .ensures tt .told)) in
-    (
+    (sym (c .loop-records-test .ensures tt)) (sym (walked .answer)) (sym (c .in-Continue-take .ensures tt .told)) in (
       onward (b .keeping) (c .args .board .now) (at .board) (c .take .last .board) (at .inv .0) (record { frame = taken .frame; good = taken .good; keeps = taken .keeps }),
       subst (λ f. Sofar whole t f (c .next .last .self .at)) (sym (walked .file)) (subst (λ n. Sofar whole t (at .records .file .now) n) (sym (walked .at)) next),
     )

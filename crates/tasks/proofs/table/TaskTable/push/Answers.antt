@@ -40,8 +40,7 @@ ghost-self c =
     let new = fresh (rowsOf es k) (c .args .task) (c .args .weight) (c .args .name .now) (c .in-rest .ensures tt) in
     let l = length-rows es k (omega arith) in
     let room = new .room in
-    let e : rowsOf (c .fill .last .self) (k + 1) ≡ rowsOf es k ++ r ∷ [] = rows-fill es (c .fill .last .self) k (c .task-of .result) (omega arith) (c .fill .ensures) ∙ ap (λ z. rowsOf es k ++ z ∷ []) (c .task-of .ensures) in
-    (
+    let e : rowsOf (c .fill .last .self) (k + 1) ≡ rowsOf es k ++ r ∷ [] = rows-fill es (c .fill .last .self) k (c .task-of .result) (omega arith) (c .fill .ensures) ∙ ap (λ z. rowsOf es k ++ z ∷ []) (c .task-of .ensures) in (
       ap length (c .fill .ensures) ∙ length-set (es .tasks) k (c .task-of .result) ∙ c .args .self .now .size,
       (omega arith, (subst (λ rs. sound rs ≡ true) (sym e) (sound-push (rowsOf es k) r (c .args .self .now .sound) (new .weighed) (new .named) (new .alone)), tt)),
     )

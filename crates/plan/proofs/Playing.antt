@@ -15,7 +15,7 @@ use Rattle.std.specs.declared.result.Result.{Result}
 use Rattle.fairness.specs.Plans.{Plan}
 use Rattle.fairness.specs.Laws.{Comparison}
 use Rattle.board.specs.declared.fault.Fault.{Fault}
-use Rattle.board.specs.Meaning.{Meaning, SameOrder, planned, pairCount}
+use Rattle.board.specs.Meaning.{Meaning, Sound, SameOrder, planned, pairCount}
 use Rattle.board.specs.Outcomes.{Outcome, done, refused, answered, after}
 use Rattle.levelling.specs.Levelled.{FairestOn}
 use Rattle.plan.specs.declared.runs.Call.{Call}
@@ -70,10 +70,11 @@ more-new : (plans : ℕ → Plan) (place : ℕ) (plan : Plan) → more plans pla
 more-new plans place plan = cond-false (leb (place + 1) place) (plans (place + 1)) plan (lt-leb (place + 1) place (omega arith))
 
 -- a new plan has run no call
-pub ran-none : (compare : Comparison) (m : Meaning) (calls : List Call) (notes : List Note) → FairestOn compare m → RanTo compare m calls 0 notes m
-ran-none compare m calls notes fair = record {
+pub ran-none : (compare : Comparison) (m : Meaning) (calls : List Call) (notes : List Note) → Sound m → FairestOn compare m → RanTo compare m calls 0 notes m
+ran-none compare m calls notes sound fair = record {
   plans = λ _. m .held;
   fairest = λ k h. let none : k ≡ 0 = omega arith in let P : ℕ → Type 0 = λ z. FairestOn compare (boardAt m calls (λ _. m .held) z) in subst P (sym none) fair;
+  sound = λ k h. let none : k ≡ 0 = omega arith in let P : ℕ → Type 0 = λ z. Sound (boardAt m calls (λ _. m .held) z) in subst P (sym none) sound;
   answers = λ k h. let no : ⊥ = omega arith in absurd no;
   totals = λ k h. let no : ⊥ = omega arith in absurd no;
   ends = refl;
@@ -82,8 +83,8 @@ ran-none compare m calls notes fair = record {
 -- one more call, with its note
 pub ran-more : (compare : Comparison) (m : Meaning) (calls : List Call) (place : ℕ) (notes : List Note) (a b : Meaning) (note : Note) → place < length calls → place < length notes
     → RanTo compare m calls place notes a → note .answer ≡ answered (outcomeOf a (callAt calls place)) → SameOrder (called a (callAt calls place)) b
-    → FairestOn compare b → Totals b (note .totals) → RanTo compare m calls (place + 1) (set notes place note) b
-ran-more compare m calls place notes a b note inside room ran told order fair totals =
+    → Sound b → FairestOn compare b → Totals b (note .totals) → RanTo compare m calls (place + 1) (set notes place note) b
+ran-more compare m calls place notes a b note inside room ran told order sound fair totals =
     let call : Call = callAt calls place in
     let present : Meaning = presentAt m calls place in
     let plans : ℕ → Plan = more (ran .plans) place (b .held) in
@@ -105,6 +106,13 @@ ran-more compare m calls place notes a b note inside room ran told order fair to
             let P : ℕ → Type 0 = λ z. FairestOn compare (boardAt m calls plans z) in
             subst P last (subst (FairestOn compare) ends fair)
         | inr within ↦ subst (FairestOn compare) (old k within) (ran .fairest k within)
+      ];
+      sound = λ k h. elim (cases-lt place k) [
+        | inl past ↦
+            let last : place + 1 ≡ k = omega arith in
+            let P : ℕ → Type 0 = λ z. Sound (boardAt m calls plans z) in
+            subst P last (subst Sound ends sound)
+        | inr within ↦ subst Sound (old k within) (ran .sound k within)
       ];
       answers = λ k h. elim (cases-lt k place) [
         | inl before ↦ ap (λ (z : Note). z .answer) (sym (earlier k before)) ∙ ran .answers k before
@@ -151,6 +159,7 @@ ran-since compare m levelled calls count notes end order ran =
     record {
       plans = ran .plans;
       fairest = λ k h. subst (FairestOn compare) (same k) (ran .fairest k h);
+      sound = λ k h. subst Sound (same k) (ran .sound k h);
       answers = λ k h. ran .answers k h ∙ (ap (λ (z : Meaning). answered (outcomeOf z (callAt calls k))) (from k) ∙ told-planned (presentAt m calls k) held (callAt calls k));
       totals = λ k h. let Q : Meaning → Type 0 = λ z. Totals z (noteAt notes k .totals) in subst Q (same (k + 1)) (ran .totals k h);
       ends = ran .ends ∙ same count;

@@ -8,7 +8,7 @@ use Rattle.std.specs.declared.result.Result.{Result}
 use Rattle.std.specs.declared.result.Result.the-variants.{Ok, Err}
 use Rattle.fairness.specs.Plans.{Plan}
 use Rattle.fairness.specs.Laws.{Comparison}
-use Rattle.board.specs.Meaning.{Meaning, planned}
+use Rattle.board.specs.Meaning.{Meaning, Sound, planned}
 use Rattle.board.specs.Outcomes.{Outcome, done, answered, after}
 use Rattle.levelling.specs.Levelled.{FairestOn}
 use Rattle.plan.specs.declared.runs.Call.{Call}
@@ -47,6 +47,7 @@ pub record RanTo (compare : Comparison) (m : Meaning) (calls : List Call) (count
   -- the plan on the board after the first k calls
   pub plans : ℕ → Plan
   pub fairest : (k : ℕ) → k ≤ count → FairestOn compare (boardAt m calls plans k)
+  pub sound : (k : ℕ) → k ≤ count → Sound (boardAt m calls plans k)
   -- each call was told what it comes to at its point
   pub answers : (k : ℕ) → k < count → noteAt notes k .answer ≡ answered (outcomeOf (presentAt m calls k) (callAt calls k))
   -- and its note has the totals of the plan that it left

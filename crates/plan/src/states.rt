@@ -3,6 +3,7 @@ ghost use mathlib.Core.Path.{_≡_};
 ghost use denote.Ref.{name};
 ghost use Rattle.board.specs.Meaning.{totalOf, freeSlots};
 ghost use Rattle.board.specs.Boards.{Good};
+ghost use Rattle.judge.specs.Verdicts.{Judged};
 ghost use Rattle.plan.specs.Changes.{planNeed, planCapacity};
 ghost use Rattle.plan.specs.Plans.{Standing, Planned, Replanned, Totals};
 use crate::changes::change_capacity;
@@ -12,6 +13,9 @@ use crate::changes::test_need;
 use board::Board;
 use board::MOST_TASKS;
 use board::fault::Fault;
+use judge::Verdict;
+use judge::judge;
+use routes::Step;
 use rules::Rule;
 use table_levelling::level_on_table;
 
@@ -110,6 +114,15 @@ impl<'a, B: Board, R: Rule> WorkingPlan<'a, B, R> {
         totals_on(self.board)
     }
 
+    // The judge's verdict on the plan. The rule is copied out, and the board lent.
+    pub fn judge(&self, route: &mut [Step]) -> Result<Verdict, Fault>
+        requires { ⌜ Standing meaning ready (order (now self .rule)) (now (now self .board)) ⌝ }
+        ensures { λ r. ⌜ Judged (order (now (self .entry) .rule)) (meaning (now (now (self .entry) .board))) (now (route .entry)) (now (route .exit)) r ⌝ }
+    {
+        let rule = self.rule;
+        judge(self.board, rule, route)
+    }
+
     // Ends the plan; its board stays as it is.
     pub fn end(self)
         ensures { λ _. ⌜ now (self .exit .0) ≡ now (self .entry .board) ⌝ }
@@ -166,6 +179,15 @@ impl<'a, B: Board, R: Rule> ReleasedPlan<'a, B, R> {
         ensures { λ r. ⌜ Totals (meaning (now (now (self .entry) .board))) r ⌝ }
     {
         totals_on(self.board)
+    }
+
+    // The judge's verdict on the plan. The rule is copied out, and the board lent.
+    pub fn judge(&self, route: &mut [Step]) -> Result<Verdict, Fault>
+        requires { ⌜ Standing meaning ready (order (now self .rule)) (now (now self .board)) ⌝ }
+        ensures { λ r. ⌜ Judged (order (now (self .entry) .rule)) (meaning (now (now (self .entry) .board))) (now (route .entry)) (now (route .exit)) r ⌝ }
+    {
+        let rule = self.rule;
+        judge(self.board, rule, route)
     }
 
     // Ends the plan; its board stays as it is.

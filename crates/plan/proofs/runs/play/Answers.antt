@@ -24,7 +24,7 @@ loop-place-holds g c =
     let P : g .R .Denot → Type 0 = λ z. Standing (b .meaning) (b .ready) (g .R·Rule .order z) board in
     let standing = subst P (sym (c .make .ensures .rule)) (made .standing) in
     (standing, b .keeping .same board, refl, refl, refl,
-    ran-none (g .R·Rule .order (c .make .result .rule)) (b .meaning board) (c .args .calls .now) (c .args .notes .now) (standing .fairest),
+    ran-none (g .R·Rule .order (c .make .result .rule)) (b .meaning board) (c .args .calls .now) (c .args .notes .now) (standing .good .sound) (standing .fairest),
     record { long = refl; rest = λ k h. refl })
 
 pub loop-place-again : need.loop-place-again
@@ -45,7 +45,7 @@ loop-place-again g c =
     step .turned ∙ (ap (λ (z : Bool). turned z (callAt calls place)) (inv .3) ∙ sym (folded-more turned true calls place (SetNeed 0 0 0) (c .loop-place-test .taken))),
     step .lent ∙ inv .4,
     ran-more (g .R·Rule .order (c .make .result .rule)) (b .meaning first) calls place (c .loop-place .notes) (b .meaning (now (lentOf (c .loop-place .state)))) (b .meaning board) _
-        (c .loop-place-test .taken) room (inv .5) (step .replanned .told) (step .replanned .order) (subst Q (inv .2) (step .replanned .standing .fairest)) (c .totals-totals .ensures),
+        (c .loop-place-test .taken) room (inv .5) (step .replanned .told) (step .replanned .order) (step .replanned .standing .good .sound) (subst Q (inv .2) (step .replanned .standing .fairest)) (c .totals-totals .ensures),
     notes-more place (c .args .notes .now) (c .loop-place .notes) _ (inv .6))
 
 moved : {X : Type 0} (P : X → Type 0) (v w : X) → v ≡ w → P w → P v

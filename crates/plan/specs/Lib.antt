@@ -1,2 +1,5 @@
 pub mod Changes
 pub mod Plans
+pub mod Turns
+pub mod Runs
+pub mod States

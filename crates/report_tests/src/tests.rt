@@ -1,16 +1,9 @@
+// What the report prints of files that are right, and of files that are refused.
 use super::*;
 use file_tests::Draft;
 use file_tests::SAMPLE;
 use file_tests::put_largest;
 use std::test::*;
-
-// The order of two tasks, with its end record.
-fn ended(order: [u8; 46]) -> [u8; 50] {
-    let mut file = [0; 50];
-    file[0..46].copy_from_slice(&order);
-    file[46..50].copy_from_slice(&[6, 0, 6, 0]);
-    file
-}
 
 #[test]
 fn a_plan(rt: LibcRuntime) -> Result<(), Fail> {
@@ -28,20 +21,20 @@ fn a_refusal(rt: LibcRuntime) -> Result<(), Fail> {
 // Each rule decides here which plan is the only fairest.
 #[test]
 fn each_letter(rt: LibcRuntime) -> Result<(), Fail> {
-    let even = ended(two_tasks(b'e', 7, [1, 2], [3, 8]));
+    let even = two_tasks(b'e', 7, [1, 2], [3, 8]);
     check(prints(rt.alloc(), &even, b"a                3   42.8%\nb                4   57.1%\nfree             0\n", false)?)?;
-    let weighted = ended(two_tasks(b'w', 1, [1, 2], [1, 1]));
+    let weighted = two_tasks(b'w', 1, [1, 2], [1, 1]);
     check(prints(rt.alloc(), &weighted, b"a                1  100.0%\nb                0    0.0%\nfree             0\n", false)?)?;
-    let by_need = ended(two_tasks(b'n', 6, [1, 1], [4, 8]));
+    let by_need = two_tasks(b'n', 6, [1, 1], [4, 8]);
     check(prints(rt.alloc(), &by_need, b"a                2   33.3%\nb                4   66.6%\nfree             0\n", false)?)
 }
 
 // No capacity at all, and then more than anybody needs.
 #[test]
 fn shares_at_the_bounds(rt: LibcRuntime) -> Result<(), Fail> {
-    let none = ended(two_tasks(b'e', 0, [1, 1], [3, 8]));
+    let none = two_tasks(b'e', 0, [1, 1], [3, 8]);
     check(prints(rt.alloc(), &none, b"a                0    0.0%\nb                0    0.0%\nfree             0\n", false)?)?;
-    let plenty = ended(two_tasks(b'e', 100, [1, 1], [3, 8]));
+    let plenty = two_tasks(b'e', 100, [1, 1], [3, 8]);
     check(prints(rt.alloc(), &plenty, b"a                3    3.0%\nb                8    8.0%\nfree            89\n", false)?)
 }
 
@@ -59,5 +52,5 @@ fn the_largest_order(rt: LibcRuntime) -> Result<(), Fail> {
     let report = report_of(rt.alloc(), draft.file())?;
     check(!report.refused)?;
     check_eq(report.text.len(), 64 * 27 + 19)?;
-    check(report.text.as_slice().ends_with(b"task-------`     250    1.5%\nfree             0\n"))
+    check(report.text.as_slice().ends_with(b"task-------`   250    1.5%\nfree             0\n"))
 }

@@ -1,14 +1,11 @@
 -- How large the sums over a sound board can be.
 use mathlib.Core.Path.{_≡_, refl}
-use mathlib.Core.Bool.{cond}
-use mathlib.Core.Logic.{_⊎_, inl, inr}
-use Prim.Native.Nat.{ℕ, zero, suc, _+_, _-_, _*_, _≤_, _<_}
+use mathlib.Core.Logic.{inl, inr}
+use Prim.Native.Nat.{ℕ, zero, suc, _-_, _*_, _≤_, _<_}
 use native.Mathlib.Omega.{arith}
-use lib.Dec.{ltb}
 use Rattle.std.proofs.shelf.Ways.{tells}
 use Rattle.std.proofs.shelf.Tests.{cases-lt}
 use Rattle.fairness.specs.Sums.{sumTo}
-use Rattle.fairness.proofs.Sums.{sum-eq, sum-zero}
 use Rattle.board.specs.Meaning.{Meaning, Sound, givenAt, freeAt, needed}
 
 -- a sum of numbers that are at most b

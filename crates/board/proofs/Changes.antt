@@ -1,6 +1,6 @@
 -- Which outcome a change comes to, what it does to the sums, and that a sound board stays sound.
-use mathlib.Core.Path.{_≡_, refl, sym, ap, _∙_}
-use mathlib.Core.Bool.{Bool, true, false, cond, _&&_, _||_}
+use mathlib.Core.Path.{_≡_, refl, ap, _∙_}
+use mathlib.Core.Bool.{true, false, _&&_, _||_}
 use mathlib.Core.Logic.{_⊎_, inl, inr}
 use Prim.Native.Nat.{ℕ, _+_, _≤_, _<_}
 use native.Mathlib.Omega.{arith}
@@ -10,7 +10,7 @@ use Rattle.std.proofs.shelf.Tests.{cases-lt, cases-eq, ne-eqb, and-right, and-l
 use Rattle.fairness.specs.Sums.{sumTo}
 use Rattle.fairness.specs.Plans.{Plan}
 use Rattle.fairness.proofs.Sums.{sum-eq, sum-point}
-use Rattle.board.specs.declared.fault.Refusal.the-variants.{NoSuchTaskOrCore, AmountTooLarge, SlotsOverNeed, CoreOverCapacity, NoPairLeft}
+use Rattle.board.specs.declared.fault.Refusal.the-variants.{CoreOverCapacity, NoPairLeft}
 use Rattle.board.specs.Meaning.{Meaning, Sound, put, givenAt, pairCount, needed, withNeed, withHeld, withCapacity, cleared}
 use Rattle.board.specs.Outcomes.{Outcome, done, refused, after, setNeed, setHeld, setCapacity}
 use Rattle.board.proofs.Bounds.{sum-none, needed-one, needed-none, needed-le}

@@ -1,9 +1,8 @@
 -- A new board is sound.
 use mathlib.Core.Path.{_≡_, refl, sym, ap, _∙_}
-use mathlib.Core.Bool.{Bool, true, false, cond, _&&_}
-use Prim.Native.Nat.{ℕ, _≤_, _<_}
+use mathlib.Core.Bool.{Bool, true, false}
+use Prim.Native.Nat.{ℕ, _≤_}
 use native.Mathlib.Omega.{arith}
-use lib.Dec.{ltb, leb}
 use Rattle.std.specs.declared.result.Result.{Result}
 use Rattle.std.specs.Results.{isErr}
 use Rattle.std.proofs.shelf.Ways.{tells}
@@ -11,7 +10,7 @@ use Rattle.std.proofs.shelf.Tests.{true≢false}
 use Rattle.fairness.specs.Sums.{sumTo}
 use Rattle.board.specs.declared.fault.Fault.{Fault}
 use Rattle.board.specs.Outcomes.{checked}
-use Rattle.board.specs.Meaning.{Meaning, Sound, newBoard, sizesAllowed, needed}
+use Rattle.board.specs.Meaning.{Sound, newBoard, sizesAllowed, needed}
 use Rattle.board.proofs.Bounds.{sum-none}
 
 -- the bounds that allowed sizes keep

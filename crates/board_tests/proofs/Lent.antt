@@ -1,10 +1,9 @@
 -- What lies past a pair board is its lender's.
-use mathlib.Core.Path.{_≡_, refl, sym, ap, _∙_}
+use mathlib.Core.Path.{_≡_, sym, ap, _∙_}
 use mathlib.Core.List.{List}
-use mathlib.Core.Bool.{true, false, cond}
-use mathlib.Core.Logic.{_⊎_, inl, inr}
+use mathlib.Core.Bool.{cond}
+use mathlib.Core.Logic.{inl, inr}
 use Prim.Native.Nat.{ℕ, _*_, min}
-use native.Mathlib.Omega.{arith}
 use lib.ListN.{drop, length}
 use denote.Ref.{RefT, now}
 use Rattle.std.proofs.shelf.Tests.{cases-bool}

@@ -2,15 +2,15 @@
 use mathlib.Core.Path.{_≡_, refl, sym, ap, _∙_, fun-ext}
 use mathlib.Core.List.{List}
 use mathlib.Core.Bool.{cond, _&&_}
-use mathlib.Core.Logic.{_⊎_, inl, inr}
-use Prim.Native.Nat.{ℕ, zero, suc, _*_, _≤_, _<_}
+use mathlib.Core.Logic.{inl, inr}
+use Prim.Native.Nat.{ℕ, zero, suc, _*_, _<_}
 use native.Mathlib.Omega.{arith}
 use lib.Dec.{eqb, ltb}
 use lib.ListN.{length, getD, set, replicate, length-set}
 use Rattle.std.proofs.shelf.Lists.{getD-set-same, getD-set-other}
 use Rattle.std.proofs.shelf.Ways.{tells}
 use Rattle.std.proofs.shelf.Tests.{cases-eq}
-use Rattle.board.specs.Meaning.{Meaning, put, withNeed, withHeld, withCapacity, newBoard}
+use Rattle.board.specs.Meaning.{put, withNeed, withHeld, withCapacity, newBoard}
 use Rattle.board_tests.specs.declared.row_board.Row.{Row}
 use Rattle.board_tests.specs.declared.row_board.RowBoard.{RowBoard}
 use Rattle.board_tests.specs.Rows.{greatest, blank, rowAt, rowsFor, Whole}

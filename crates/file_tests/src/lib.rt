@@ -1,5 +1,4 @@
 // Order files put to the reader: each refusal with its place, each letter, the smallest and the largest order.
-ghost use Rattle.board.specs.Boards.{Good};
 
 #[cfg(test)]
 mod tests;
@@ -184,4 +183,48 @@ impl Draft {
         }
         &self.bytes[0..self.length]
     }
+}
+
+// A record of the kind for each pair of 64 tasks and 16 cores.
+fn put_pairs(draft: &mut Draft, kind: u8, low: u8, high: u8) {
+    for task in 0..64 {
+        for core in 0..16 {
+            draft.put_all(&[6, 0, kind, 0, task, core, low, high]);
+        }
+    }
+}
+
+// The largest order: 64 tasks with names of 12 bytes, 16 cores, and a need and slots for each pair.
+pub fn put_largest(draft: &mut Draft) {
+    draft.put_all(&[5, 0, 1, 0, 0x77, 64, 16]);
+    for core in 0..16 {
+        draft.put_all(&[5, 0, 2, 0, core, 0xE8, 3]);
+    }
+    for task in 0..64 {
+        draft.put_all(
+            &[
+                16,
+                0,
+                3,
+                0,
+                task,
+                100,
+                0x74,
+                0x61,
+                0x73,
+                0x6B,
+                0x2D,
+                0x2D,
+                0x2D,
+                0x2D,
+                0x2D,
+                0x2D,
+                0x2D,
+                0x21 + task,
+            ],
+        );
+    }
+    put_pairs(draft, 4, 0xE8, 3);
+    put_pairs(draft, 5, 15, 0);
+    draft.put_all(&[4, 0, 6, 0, 0x51, 8]);
 }

@@ -16,7 +16,7 @@ use Rattle.routes.specs.Routes.{taskOn, coreOn}
 use Rattle.routes.proofs.Along.{loser-on}
 use Rattle.search.specs.declared.Found.{Found}
 use Rattle.search.specs.Gains.{shareOn, NoneFreeOn}
-use Rattle.search.specs.Founds.{FairerRoute, NothingToGain}
+use Rattle.search.specs.Founds.{FairerRoute, FewestSteps, NothingToGain}
 use Rattle.levelling.specs.declared.FreePair.{FreePair}
 use Rattle.levelling.specs.Levelled.{FairestOn, LowestFree}
 use Rattle.levelling.proofs.Boards.{feasible, countable}
@@ -75,6 +75,7 @@ module _ (compare : Comparison) (lawful : Lawful compare) (m : Meaning) (so : So
     shown none = record {
       none-free = none;
       few = f .few;
+      fewest = (let P : ℕ → Type 0 = λ gainer. FewestSteps m gainer (found .loser) (found .steps) in subst P (sym (f .begins)) (f .fewest));
       route = f .route;
       gains = gains;
       fairer = fairer;

@@ -18,6 +18,7 @@ use Rattle.routes.specs.declared.Step.{Step}
 use Rattle.routes.specs.Routes.{taskOn, coreOn, RouteTo}
 use Rattle.search.specs.Gains.{shareOn, NoneFreeOn}
 use Rattle.search.specs.Chains.{RestSame}
+use Rattle.search.specs.Founds.{FewestSteps}
 use Rattle.levelling.specs.Levelled.{FairestOn, LowestFree}
 use Rattle.judge.specs.declared.Verdict.{Verdict}
 use Rattle.judge.specs.declared.Verdict.the-variants as verdict
@@ -46,10 +47,11 @@ MakesFairer compare m steps loser =
     → Feasible (m .tasks) (m .cores) (m .need) (m .capacity) plan × Fairer compare (m .tasks) (m .cores) (m .need) plan (m .held)
 
 -- no slot is free that a task needs, but one passed along the first entries of the list, to their first task from the loser,
--- makes the plan fairer; the rest of the list is as it was
+-- makes the plan fairer, and no route between these two is shorter; the rest of the list is as it was
 pub record RouteShown (compare : Comparison) (m : Meaning) (before after : List Step) (steps loser : ℕ) : Type 0 where
   pub none-free : NoneFreeOn m
   pub few : steps ≤ mostCores
+  pub fewest : FewestSteps m (taskOn (take steps after) loser 0) loser steps
   pub route : RouteTo m (take steps after) loser
   pub gains : shouldGain compare (shareOn m (taskOn (take steps after) loser 0)) (shareOn m loser) ≡ true
   pub fairer : MakesFairer compare m (take steps after) loser

@@ -1,8 +1,6 @@
 -- One record more, by what the sections say of it and what the board or the table answers.
-use mathlib.Core.Path.{_≡_, refl, sym, ap, _∙_}
-use mathlib.Core.List.{List}
-use Prim.Native.Nat.{ℕ, _+_}
-use Rattle.std.specs.declared.result.Result.{Result}
+use mathlib.Core.Path.{_≡_, ap, _∙_}
+use Prim.Native.Nat.{_+_}
 use Rattle.std.specs.declared.result.Result.the-variants.{Ok, Err}
 use Rattle.board.specs.declared.fault.Fault.{Fault}
 use Rattle.board.specs.declared.fault.Refusal.{Refusal}

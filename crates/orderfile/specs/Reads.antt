@@ -23,15 +23,16 @@ pub record Order : Type 0 where
   pub board : Meaning
   pub rows : List Row
 
--- a board and a table that are clear, and a file of which a whole reading makes the order or the first fault
+-- the order that a file is, or the first thing that is wrong with it
 abbrev pub Outcome : Type 0
 Outcome = Result Order Fault
 
--- refused, nothing is left on the board or in the table
+-- what the caller is told
 abbrev pub letterOf : Outcome → Result ℕ Fault
 letterOf (Ok order) = Ok (order .letter)
 letterOf (Err fault) = Err fault
 
+-- what stands on the board and in the table afterwards: refused, nothing
 abbrev pub boardOf : Meaning → Outcome → Meaning
 boardOf m (Ok order) = order .board
 boardOf m (Err fault) = cleared m
@@ -44,7 +45,7 @@ rowsOf (Err fault) = []
 abbrev pub finished : Reading → List ℕ → ℕ → Result Reading Fault
 finished s file at = then (finishAt file at) (λ _. Ok s)
 
--- the records from `at` on, front to back; each takes at least one of the steps, of which there are as many as bytes
+-- the records from `at` on, front to back; there are more steps than bytes, and each record has four bytes at least, so the steps never run out
 abbrev pub run : ℕ → Reading → List ℕ → ℕ → Result Reading Fault
 run zero s file at = Err (faultAt RecordCutShort at)
 run (suc steps) s file at =

@@ -10,7 +10,7 @@ use Rattle.board.specs.Refusals.{faultAt}
 use Rattle.records.specs.declared.kind.Kind.{Kind}
 use Rattle.records.specs.declared.kind.Kind.the-variants as kind
 use Rattle.records.specs.declared.fields.HeadLine.{HeadLine}
-use Rattle.records.specs.Cuts.{Cut, Walk, openOf, cutAt}
+use Rattle.records.specs.Cuts.{openOf, cutAt}
 use Rattle.sections.specs.Letters.{headTest}
 
 -- what comes after an accepted step; a fault ends all

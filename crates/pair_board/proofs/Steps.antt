@@ -1,24 +1,24 @@
 -- What each step of a pair board does to its meaning, and that its memory still serves.
-use mathlib.Core.Path.{_≡_, refl, sym, ap, subst, _∙_, fun-ext}
+use mathlib.Core.Path.{_≡_, refl, sym, ap, _∙_, fun-ext}
 use mathlib.Core.List.{List}
-use mathlib.Core.Bool.{Bool, true, false, cond, _&&_}
-use mathlib.Core.Logic.{_⊎_, inl, inr}
+use mathlib.Core.Bool.{false, cond, _&&_}
+use mathlib.Core.Logic.{inl, inr}
 use Prim.Native.Nat.{ℕ, zero, suc, _+_, _-_, _*_, _≤_, _<_, min}
 use native.Mathlib.Omega.{arith}
 use lib.Dec.{eqb, ltb, leb}
-use lib.ListN.{length, getD, set, replicate, drop, length-set}
-use denote.Ref.{now, name}
-use Rattle.std.proofs.shelf.Lists.{getD-set-same, getD-set-other, drop-set-lt}
+use lib.ListN.{length, getD, set, replicate, length-set}
+use denote.Ref.{now}
+use Rattle.std.proofs.shelf.Lists.{getD-set-same, getD-set-other}
 use Rattle.std.proofs.shelf.Ways.{tells}
 use Rattle.std.proofs.shelf.Tests.{cases-eq}
 use Rattle.fairness.specs.Sums.{sumTo}
-use Rattle.board.specs.Meaning.{Meaning, Sound, mostSlots, put, needed, pairCount, newBoard, withNeed, withHeld, withCapacity}
+use Rattle.board.specs.Meaning.{Meaning, mostSlots, needed, pairCount, newBoard, withNeed, withHeld, withCapacity}
 use Rattle.board.specs.Boards.{Good}
-use Rattle.board.proofs.Bounds.{sum-none, needed-one, needed-none}
+use Rattle.board.proofs.Bounds.{sum-none}
 use Rattle.board.proofs.Changes.{pairs-put}
 use Rattle.pair_board.specs.declared.entry.Entry.{Entry}
 use Rattle.pair_board.specs.declared.PairBoard.{PairBoard}
-use Rattle.pair_board.specs.Entries.{entryAt, isFor, amounts, Absent, At, Serving}
+use Rattle.pair_board.specs.Entries.{entryAt, amounts, Absent, At, Serving}
 use Rattle.pair_board.specs.Pairs.{pairs, pairsOf, taken, Ready}
 use Rattle.pair_board.proofs.Lookups.{is-task, is-core, absent-none, at-found, put-same}
 use Rattle.pair_board.proofs.Writes.{changed, changed-serving, added, added-serving, removed, removed-serving}

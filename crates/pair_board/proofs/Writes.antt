@@ -1,12 +1,12 @@
 -- What an entry changed, added or taken out does to the amounts, and that the entries still serve.
-use mathlib.Core.Path.{_≡_, refl, sym, ap, _∙_, fun-ext}
+use mathlib.Core.Path.{_≡_, sym, ap, _∙_, fun-ext}
 use mathlib.Core.List.{List}
-use mathlib.Core.Bool.{Bool, true, false, cond, _&&_}
-use mathlib.Core.Logic.{_⊎_, inl, inr, _≢_}
+use mathlib.Core.Bool.{true, false, cond, _&&_}
+use mathlib.Core.Logic.{inl, inr, _≢_}
 use Prim.Native.Nat.{ℕ, _+_, _≤_, _<_}
 use native.Mathlib.Omega.{arith}
 use lib.Dec.{eqb}
-use lib.ListN.{length, getD, set}
+use lib.ListN.{length, set}
 use Rattle.std.proofs.shelf.Lists.{getD-set-same, getD-set-other}
 use Rattle.std.proofs.shelf.Ways.{tells}
 use Rattle.std.proofs.shelf.Tests.{cases-eq, cases-bool, cond-true, cond-false, eq-eqb, ne-eqb, true≢false}
@@ -15,7 +15,7 @@ use Rattle.fairness.proofs.Sums.{sum-eq, sum-point, sum-more}
 use Rattle.board.specs.Meaning.{put}
 use Rattle.pair_board.specs.declared.entry.Entry.{Entry}
 use Rattle.pair_board.specs.Entries.{blank, entryAt, isFor, amounts, Absent, At, Serving}
-use Rattle.pair_board.proofs.Lookups.{part, is-task, is-core, for-pair, not-for, absent-none, others, at-found}
+use Rattle.pair_board.proofs.Lookups.{part, is-task, is-core, for-pair, not-for, absent-none, at-found}
 
 -- the pair that a number is put for, and any other
 put-for : (plan : ℕ → ℕ → ℕ) (entry : Entry) (task core amount t c : ℕ) → entry .task ≡ task → entry .core ≡ core → isFor entry t c ≡ true → put plan task core amount t c ≡ amount

@@ -2,7 +2,7 @@
 use mathlib.Core.Path.{_≡_}
 use mathlib.Core.List.{List}
 use mathlib.Core.Bool.{Bool, cond, _&&_}
-use Prim.Native.Nat.{ℕ, _*_, _≤_, min}
+use Prim.Native.Nat.{ℕ, _*_, min}
 use lib.Dec.{ltb, leb}
 use lib.ListN.{getD, drop, length}
 use denote.Ref.{RefT, now, name}

@@ -22,7 +22,7 @@ pub struct PairBoard<'a> {
     tasks: usize,
     cores: usize,
     used: usize,
-    capacities: [u16; 16],
+    capacities: [u16; board::MOST_CORES],
     entries: &'a mut [Entry],
 }
 
@@ -47,7 +47,7 @@ impl<'a> PairBoard<'a> {
                 tasks: 0,
                 cores: 0,
                 used: 0,
-                capacities: [0; 16],
+                capacities: [0; board::MOST_CORES],
                 entries,
             };
         }
@@ -55,7 +55,7 @@ impl<'a> PairBoard<'a> {
             tasks: n,
             cores: m,
             used: 0,
-            capacities: [0; 16],
+            capacities: [0; board::MOST_CORES],
             entries,
         }
     }
@@ -173,7 +173,7 @@ pub impl<'a> Board for PairBoard<'a> as PairIsBoard {
 
     fn clear(&mut self) {
         self.used = 0;
-        self.capacities = [0; 16];
+        self.capacities = [0; board::MOST_CORES];
     }
 
     fn pair_count(&self) -> usize {

@@ -11,7 +11,7 @@ use borrow.Author.Count.{below-more}
 use Rattle.std.proofs.shelf.Lists.{getD-set-same, getD-set-other}
 use Rattle.std.proofs.shelf.Tests.{cases-lt, le-leb, lt-leb, cond-true, cond-false}
 use Rattle.search.specs.declared.Search.{Search}
-use Rattle.search.specs.Searches.{taskAt, throughAt, coreAt, openerAt, Linked}
+use Rattle.search.specs.Trails.{taskAt, throughAt, coreAt, openerAt, Linked}
 use Rattle.routes.specs.declared.Step.{Step}
 use Rattle.routes.specs.Routes.{noStep, coreOn}
 use Rattle.search.specs.Chains.{Chain, RestSame}

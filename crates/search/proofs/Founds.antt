@@ -1,6 +1,6 @@
 -- Searches for several tasks put together.
 use Prim.Native.Nat.{ℕ, _+_, _≤_, _<_}
-use mathlib.Core.Path.{_≡_, refl, ap, subst, _∙_}
+use mathlib.Core.Path.{_≡_, refl, sym, ap, subst, _∙_}
 use mathlib.Core.Logic.{inl, inr}
 use mathlib.Core.List.{List}
 use native.Mathlib.Omega.{arith}
@@ -13,9 +13,11 @@ use Rattle.routes.specs.declared.Step.{Step}
 use Rattle.search.specs.Gains.{shareOn, gainsFrom, NoneFreeOn, SafeOn}
 use Rattle.fairness.specs.Routes.{shouldGain}
 use Rattle.search.specs.declared.Search.{Search}
-use Rattle.search.specs.Searches.{taskAt, Gain}
-use Rattle.search.specs.Chains.{Leads, RestSame}
+use Rattle.search.specs.Trails.{taskAt}
+use Rattle.search.specs.Searches.{Gain}
+use Rattle.search.specs.Chains.{Chain, Leads, RestSame}
 use Rattle.search.proofs.Shares.{not-own}
+use Rattle.search.proofs.Fewest.{fewest}
 use Rattle.std.specs.declared.option.Option.{Option}
 use Rattle.std.specs.declared.option.Option.the-variants.{None, Some}
 use Rattle.search.specs.declared.Found.{Found}
@@ -57,9 +59,9 @@ searched-round compare m first to a b c None h s = record {
 searched-round compare m first to a b c (Some f) h s = route-on compare m first to a b c f h s
 
 -- the route to the task that a search came to
-pub shown-route : (compare : Comparison) → Lawful compare → (m : Meaning) → Sound m → (p : ℕ) (s : Search) (x : ℕ) (a b : List Step) (k : ℕ) → Gain compare m p s x → Leads s x b k → k ≤ 16 → RestSame a b k
+pub shown-route : (compare : Comparison) → Lawful compare → (m : Meaning) → Sound m → (p : ℕ) (s : Search) (x : ℕ) (a b : List Step) (k : ℕ) → Gain compare m p s x → Leads s x b k → Chain s x b k → k ≤ 16 → RestSame a b k
     → FairerRoute compare m a b (record { gainer = p; loser = taskAt s x; steps = k })
-shown-route compare lawful m so p s x a b k h leads few rest =
+shown-route compare lawful m so p s x a b k h leads chain few rest =
     let Q : ℕ → Type 0 = λ z. gainsFrom compare (shareOn m p) (shareOn m z) ≡ true in
     let other : 0 < x = elim (cases-lt 0 x) [
       | inl u ↦ u
@@ -71,5 +73,7 @@ shown-route compare lawful m so p s x a b k h leads few rest =
       begins = r .first ∙ h .first;
       gains = and-parts (ltb 0 (totalOf m (taskAt s x))) (shouldGain compare (shareOn m p) (shareOn m (taskAt s x))) (h .gains) .1;
       few = few;
+      fewest = λ others at through route begins ends.
+          fewest m s x b k (h .trail .linked) chain (h .here) (h .layered) (h .gathered) (h .early) others at through route (begins ∙ sym (h .first)) ends;
       rest = rest;
     }

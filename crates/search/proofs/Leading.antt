@@ -9,7 +9,7 @@ use Rattle.std.proofs.shelf.Lists.{getD-take, length-take-le}
 use Rattle.std.proofs.shelf.Tests.{cases-lt, cases-eq}
 use Rattle.board.specs.Meaning.{Meaning}
 use Rattle.search.specs.declared.Search.{Search}
-use Rattle.search.specs.Searches.{taskAt, throughAt, coreAt, openerAt, Linked, Trail}
+use Rattle.search.specs.Trails.{taskAt, throughAt, coreAt, openerAt, Linked, Trail}
 use Rattle.routes.specs.declared.Step.{Step}
 use Rattle.fairness.specs.Routes.{Route}
 use Rattle.routes.specs.Routes.{noStep, taskOn, coreOn}
@@ -20,7 +20,7 @@ module _ (s : Search) (x : ℕ) (l : List Step) (k : ℕ) (w : Linked s) (h : Ch
   up : (i : ℕ) → i < k → h .at i < h .at (suc i)
   up i u = let n = h .next i u in omega (arith, n .1, w .earlier (h .at (suc i)) (h .within (suc i) (omega arith)) (n .0))
 
-  rises : (j : ℕ) → j ≤ k → (i : ℕ) → i < j → h .at i < h .at j
+  pub rises : (j : ℕ) → j ≤ k → (i : ℕ) → i < j → h .at i < h .at j
   rises zero u i v = absurd (omega arith)
   rises (suc j) u i v =
       let a = up j (omega arith) in

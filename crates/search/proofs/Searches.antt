@@ -14,10 +14,13 @@ use Rattle.fairness.specs.Laws.{Comparison}
 use Rattle.fairness.proofs.Sums.{sum-eq, sum-zero}
 use Rattle.board.specs.Meaning.{Meaning, Sound}
 use Rattle.search.specs.declared.Search.{Search}
-use Rattle.search.specs.Searches.{taskAt, isFound, reached, empty, Trail, SweptTo, Spread, Trying}
+use Rattle.search.specs.Trails.{taskAt, isFound, reached, empty, Trail}
+use Rattle.search.specs.Layers.{EarlyOpen, Layered}
+use Rattle.search.specs.Searches.{SweptTo, Spread, Trying}
 use Rattle.search.specs.Gains.{shareOn, gainsFrom, NoneFreeOn, SafeOn}
 use Rattle.search.proofs.Trails.{flag-more}
 use Rattle.search.proofs.Spreads.{swept-on}
+use Rattle.search.proofs.Layers.{early-on, early-now}
 
 -- nothing is set in a list of false
 none-set : (n k : ℕ) → getD (replicate n false) k false ≡ false
@@ -54,11 +57,20 @@ module _ (compare : Comparison) (m : Meaning) (p : ℕ) (so : Sound m) (pn : p <
     wants = λ o l. absurd (omega arith);
   }
 
+  start-layered : Layered m (reached empty p 0)
+  start-layered = record {
+    openers-rise = λ q l. absurd (omega arith);
+    openings-rise = λ y l x pos u. absurd (omega arith);
+    opening = λ j l on. absurd (both-ways _ (none-set 16 j) on);
+  }
+
   pub trying-start : Trying compare m p (reached empty p 0) 0
   trying-start = record {
-    complete = record { trail = start-trail; covered = λ j i jl il on has. absurd (both-ways _ (none-set 16 j) on) };
+    complete = record { trail = start-trail; covered = λ j i jl il on has. absurd (both-ways _ (none-set 16 j) on); layered = start-layered; gathered = λ q i ql. absurd (omega arith) };
     first = refl;
     swept = λ x l. absurd (omega arith);
+    early = λ x l. absurd (omega arith);
+    latest = λ o l. absurd (omega arith);
     fails = λ x l. absurd (omega arith);
   }
 
@@ -67,6 +79,8 @@ module _ (compare : Comparison) (m : Meaning) (p : ℕ) (so : Sound m) (pn : p <
     complete = sp .complete;
     first = sp .grown .same 0 (omega arith) ∙ y .first;
     swept = below-more (λ x. SweptTo m t x (m .cores)) h (λ x u. swept-on m s t x (m .cores) (omega arith) (sp .grown) (y .swept x u)) (sp .swept);
+    early = below-more (λ x. EarlyOpen m t x) h (λ x u. early-on m s t x (omega arith) (sp .grown) (y .early x u)) (early-now m t h (sp .complete .layered) (sp .latest) (sp .swept));
+    latest = λ o u. omega (arith, sp .latest o u);
     fails = below-more (λ x. gainsFrom compare (shareOn m p) (shareOn m (taskAt t x)) ≡ false) h (λ x u. rw (sp .grown .same x (omega arith)) (y .fails x u)) (rw (sp .grown .same h l) fail);
   }
 

@@ -13,7 +13,7 @@ use Rattle.fairness.specs.Sums.{sumTo}
 use Rattle.fairness.proofs.Sums.{sum-point, count-le}
 use Rattle.board.specs.Meaning.{Meaning}
 use Rattle.search.specs.declared.Search.{Search}
-use Rattle.search.specs.Searches.{taskAt, throughAt, isFound, coreAt, openerAt, isOpened, reached, entered, Trail, Grown}
+use Rattle.search.specs.Trails.{taskAt, throughAt, isFound, coreAt, openerAt, isOpened, reached, entered, Trail, Grown}
 
 -- one flag more
 pub flag-more : (n k : ℕ) (l : List Bool) → k < n → k < length l → getD l k false ≡ false
@@ -47,10 +47,10 @@ module _ (m : Meaning) (s : Search) (k o : ℕ) (t : Trail m s) (kn : k < m .tas
   pub task-old : (x : ℕ) → x < s .count → taskAt (reached s k o) x ≡ taskAt s x
   task-old x l = getD-set-other (s .tasks) (s .count) x k 0 (λ e. omega arith)
 
-  by-new : throughAt (reached s k o) (s .count) ≡ o
+  pub by-new : throughAt (reached s k o) (s .count) ≡ o
   by-new = getD-set-same (s .through) (s .count) o 0 (omega (arith, t .linked .sized .through, reach-room))
 
-  by-old : (x : ℕ) → x < s .count → throughAt (reached s k o) x ≡ throughAt s x
+  pub by-old : (x : ℕ) → x < s .count → throughAt (reached s k o) x ≡ throughAt s x
   by-old x l = getD-set-other (s .through) (s .count) x o 0 (λ e. omega arith)
 
   pub found-new : isFound (reached s k o) k ≡ true
@@ -100,7 +100,14 @@ module _ (m : Meaning) (s : Search) (k o : ℕ) (t : Trail m s) (kn : k < m .tas
   }
 
   pub reached-grown : Grown s (reached s k o)
-  reached-grown = record { more = omega arith; same = task-old; stays = λ j h. h }
+  reached-grown = record {
+    more = omega arith;
+    same = task-old;
+    stays = λ j h. h;
+    more-opens = omega arith;
+    same-core = λ o l. refl;
+    same-opener = λ o l. refl;
+  }
 
 -- the task at place x opens core j
 module _ (m : Meaning) (s : Search) (x j : ℕ) (t : Trail m s) (xl : x < s .count) (jm : j < m .cores) (m16 : m .cores ≤ 16) (new : isOpened s j ≡ false) where
@@ -110,13 +117,13 @@ module _ (m : Meaning) (s : Search) (x j : ℕ) (t : Trail m s) (xl : x < s .cou
   pub core-new : coreAt (entered s x j) (s .opens) ≡ j
   core-new = getD-set-same (s .cores) (s .opens) j 0 (omega (arith, t .linked .sized .cores, enter-room))
 
-  core-old : (o : ℕ) → o < s .opens → coreAt (entered s x j) o ≡ coreAt s o
+  pub core-old : (o : ℕ) → o < s .opens → coreAt (entered s x j) o ≡ coreAt s o
   core-old o l = getD-set-other (s .cores) (s .opens) o j 0 (λ e. omega arith)
 
-  opener-new : openerAt (entered s x j) (s .opens) ≡ x
+  pub opener-new : openerAt (entered s x j) (s .opens) ≡ x
   opener-new = getD-set-same (s .openers) (s .opens) x 0 (omega (arith, t .linked .sized .openers, enter-room))
 
-  opener-old : (o : ℕ) → o < s .opens → openerAt (entered s x j) o ≡ openerAt s o
+  pub opener-old : (o : ℕ) → o < s .opens → openerAt (entered s x j) o ≡ openerAt s o
   opener-old o l = getD-set-other (s .openers) (s .opens) o x 0 (λ e. omega arith)
 
   pub opened-new : isOpened (entered s x j) j ≡ true
@@ -162,14 +169,31 @@ module _ (m : Meaning) (s : Search) (x j : ℕ) (t : Trail m s) (xl : x < s .cou
   }
 
   pub entered-grown : Grown s (entered s x j)
-  entered-grown = record { more = omega arith; same = λ y l. refl; stays = opened-old }
+  entered-grown = record {
+    more = omega arith;
+    same = λ y l. refl;
+    stays = opened-old;
+    more-opens = omega arith;
+    same-core = core-old;
+    same-opener = opener-old;
+  }
 
 pub grown-same : (s : Search) → Grown s s
-grown-same s = record { more = omega arith; same = λ x l. refl; stays = λ j h. h }
+grown-same s = record {
+  more = omega arith;
+  same = λ x l. refl;
+  stays = λ j h. h;
+  more-opens = omega arith;
+  same-core = λ o l. refl;
+  same-opener = λ o l. refl;
+}
 
 pub grown-on : (s t u : Search) → Grown s t → Grown t u → Grown s u
 grown-on s t u g h = record {
   more = omega (arith, g .more, h .more);
   same = λ x l. h .same x (omega (arith, g .more)) ∙ g .same x l;
   stays = λ j o. h .stays j (g .stays j o);
+  more-opens = omega (arith, g .more-opens, h .more-opens);
+  same-core = λ o l. h .same-core o (omega (arith, g .more-opens)) ∙ g .same-core o l;
+  same-opener = λ o l. h .same-opener o (omega (arith, g .more-opens)) ∙ g .same-opener o l;
 }

@@ -5,7 +5,7 @@ use mathlib.Core.List.{List}
 use lib.ListN.{getD, take}
 use Rattle.board.specs.Meaning.{Meaning}
 use Rattle.search.specs.declared.Search.{Search}
-use Rattle.search.specs.Searches.{taskAt, throughAt, coreAt, openerAt, Trail}
+use Rattle.search.specs.Trails.{taskAt, throughAt, coreAt, openerAt, Trail}
 use Rattle.routes.specs.declared.Step.{Step}
 use Rattle.routes.specs.Routes.{noStep, taskOn, coreOn, RouteTo}
 

@@ -1,109 +1,15 @@
--- What a search for a fairer route has found, and what it comes to.
-use Prim.Native.Nat.{ℕ, _+_, _≤_, _<_}
+-- What each part of a search comes to.
+use Prim.Native.Nat.{ℕ, _<_}
 use mathlib.Core.Path.{_≡_}
-use mathlib.Core.Bool.{Bool, true, false, cond}
-use lib.ListN.{length, getD, set, replicate}
+use mathlib.Core.Bool.{true, false}
 use Rattle.std.specs.Options.{Cases as BySome}
 use Rattle.std.specs.declared.option.Option.{Option}
-use Rattle.fairness.specs.Sums.{sumTo}
 use Rattle.fairness.specs.Laws.{Comparison}
-use Rattle.board.specs.Meaning.{Meaning, mostTasks, mostCores}
-use Rattle.search.specs.Gains.{shareOn, gainsFrom, NoneFreeOn, SafeOn}
+use Rattle.board.specs.Meaning.{Meaning}
 use Rattle.search.specs.declared.Search.{Search}
-
--- the task at place x, the opening that found it, and whether task k is found
-abbrev pub taskAt : Search → ℕ → ℕ
-taskAt s x = getD (s .tasks) x 0
-
-abbrev pub throughAt : Search → ℕ → ℕ
-throughAt s x = getD (s .through) x 0
-
-abbrev pub isFound : Search → ℕ → Bool
-isFound s k = getD (s .found) k false
-
--- the core of opening o, the place of the task that opened it, and whether core j is open
-abbrev pub coreAt : Search → ℕ → ℕ
-coreAt s o = getD (s .cores) o 0
-
-abbrev pub openerAt : Search → ℕ → ℕ
-openerAt s o = getD (s .openers) o 0
-
-abbrev pub isOpened : Search → ℕ → Bool
-isOpened s j = getD (s .opened) j false
-
--- nothing found
-abbrev pub empty : Search
-empty = record {
-  tasks = replicate 64 0;
-  through = replicate 64 0;
-  found = replicate 64 false;
-  count = 0;
-  cores = replicate 16 0;
-  openers = replicate 16 0;
-  opened = replicate 16 false;
-  opens = 0;
-}
-
--- task k is found through opening o
-abbrev pub reached : Search → ℕ → ℕ → Search
-reached s k o = record {
-  tasks = set (s .tasks) (s .count) k;
-  through = set (s .through) (s .count) o;
-  found = set (s .found) k true;
-  count = s .count + 1;
-  cores = s .cores;
-  openers = s .openers;
-  opened = s .opened;
-  opens = s .opens;
-}
-
--- the task at place x opens core j
-abbrev pub entered : Search → ℕ → ℕ → Search
-entered s x j = record {
-  tasks = s .tasks;
-  through = s .through;
-  found = s .found;
-  count = s .count;
-  cores = set (s .cores) (s .opens) j;
-  openers = set (s .openers) (s .opens) x;
-  opened = set (s .opened) j true;
-  opens = s .opens + 1;
-}
-
--- the arrays' sizes
-pub record Sized (s : Search) : Type 0 where
-  pub tasks : length (s .tasks) ≡ mostTasks
-  pub through : length (s .through) ≡ mostTasks
-  pub found : length (s .found) ≡ mostTasks
-  pub cores : length (s .cores) ≡ mostCores
-  pub openers : length (s .openers) ≡ mostCores
-  pub opened : length (s .opened) ≡ mostCores
-
--- what led to each task found and to each core opened lies before it, and no task and no core stands twice
-pub record Linked (s : Search) : Type 0 where
-  pub sized : Sized s
-  pub some : 0 < s .count
-  pub room : s .count ≤ mostTasks
-  pub limit : s .opens ≤ mostCores
-  pub apart : (y : ℕ) → y < s .count → (x : ℕ) → x < y → taskAt s x ≡ taskAt s y → ⊥
-  pub cause : (x : ℕ) → x < s .count → 0 < x → throughAt s x < s .opens
-  pub earlier : (x : ℕ) → x < s .count → 0 < x → openerAt s (throughAt s x) < x
-  pub placing : (o : ℕ) → o < s .opens → openerAt s o < s .count
-  pub falls : (o : ℕ) → o < s .opens → 0 < openerAt s o → throughAt s (openerAt s o) < o
-  pub once : (o : ℕ) → o < s .opens → (q : ℕ) → q < o → coreAt s q ≡ coreAt s o → ⊥
-
--- on the board, each opener still needs slots of the core that it opened, and each task found there holds some
-pub record Trail (m : Meaning) (s : Search) : Type 0 where
-  pub linked : Linked s
-  pub number : s .count ≡ sumTo (m .tasks) (λ k. cond (isFound s k) 1 0)
-  pub inside : (x : ℕ) → x < s .count → taskAt s x < m .tasks
-  pub known : (x : ℕ) → x < s .count → isFound s (taskAt s x) ≡ true
-  pub placed : (k : ℕ) → k < m .tasks → isFound s k ≡ true → (x : ℕ) × (x < s .count) × (taskAt s x ≡ k)
-  pub holds : (x : ℕ) → x < s .count → 0 < x → 0 < m .held (taskAt s x) (coreAt s (throughAt s x))
-  pub few : s .opens ≡ sumTo (m .cores) (λ j. cond (isOpened s j) 1 0)
-  pub real : (o : ℕ) → o < s .opens → coreAt s o < m .cores
-  pub shown : (o : ℕ) → o < s .opens → isOpened s (coreAt s o) ≡ true
-  pub wants : (o : ℕ) → o < s .opens → m .held (taskAt s (openerAt s o)) (coreAt s o) < m .need (taskAt s (openerAt s o)) (coreAt s o)
+use Rattle.search.specs.Gains.{shareOn, gainsFrom, NoneFreeOn, SafeOn}
+use Rattle.search.specs.Trails.{taskAt, isFound, openerAt, isOpened, Trail, Grown}
+use Rattle.search.specs.Layers.{OpenersTo, EarlyOpen, Gathered, Layered}
 
 -- each holder of an open core is found
 abbrev pub Covered : Meaning → Search → Type 0
@@ -117,12 +23,6 @@ CoveredTo m s b k = (j i : ℕ) → j < m .cores → i < m .tasks → isOpened s
 abbrev pub SweptTo : Meaning → Search → ℕ → ℕ → Type 0
 SweptTo m s x b = (j : ℕ) → j < b → m .held (taskAt s x) j < m .need (taskAt s x) j → isOpened s j ≡ true
 
--- t has all that s has found and opened
-pub record Grown (s t : Search) : Type 0 where
-  pub more : s .count ≤ t .count
-  pub same : (x : ℕ) → x < s .count → taskAt t x ≡ taskAt s x
-  pub stays : (j : ℕ) → isOpened s j ≡ true → isOpened t j ≡ true
-
 -- the task at place x may open core j
 pub record MayOpen (m : Meaning) (s : Search) (x j : ℕ) : Type 0 where
   pub trail : Trail m s
@@ -131,30 +31,41 @@ pub record MayOpen (m : Meaning) (s : Search) (x j : ℕ) : Type 0 where
   pub real : j < m .cores
   pub shut : isOpened s j ≡ false
   pub wants : m .held (taskAt s x) j < m .need (taskAt s x) j
+  pub layered : Layered m s
+  pub gathered : Gathered m s
+  pub latest : OpenersTo s x
 
--- t is s with core j open and all its holders found
-pub record Opened (m : Meaning) (s t : Search) (j : ℕ) : Type 0 where
+-- t is s with core j opened by the task at place x and all its holders found
+pub record Opened (m : Meaning) (s t : Search) (x j : ℕ) : Type 0 where
   pub trail : Trail m t
   pub covered : Covered m t
   pub grown : Grown s t
   pub open-now : isOpened t j ≡ true
+  pub layered : Layered m t
+  pub gathered : Gathered m t
+  pub latest : OpenersTo t x
 
 -- all holders of the open cores are found
 pub record Complete (m : Meaning) (s : Search) : Type 0 where
   pub trail : Trail m s
   pub covered : Covered m s
+  pub layered : Layered m s
+  pub gathered : Gathered m s
 
 -- t is s with all cores below b open of which the task at place x still needs slots
 pub record Spread (m : Meaning) (s t : Search) (x b : ℕ) : Type 0 where
   pub complete : Complete m t
   pub grown : Grown s t
   pub swept : SweptTo m t x b
+  pub latest : OpenersTo t x
 
 -- none of the tasks at places below h should lose a slot to p, and what they lead to is found
 pub record Trying (compare : Comparison) (m : Meaning) (p : ℕ) (s : Search) (h : ℕ) : Type 0 where
   pub complete : Complete m s
   pub first : taskAt s 0 ≡ p
   pub swept : (x : ℕ) → x < h → SweptTo m s x (m .cores)
+  pub early : (x : ℕ) → x < h → EarlyOpen m s x
+  pub latest : (o : ℕ) → o < s .opens → openerAt s o < h
   pub fails : (x : ℕ) → x < h → gainsFrom compare (shareOn m p) (shareOn m (taskAt s x)) ≡ false
 
 -- the search began at p, and p should gain a slot from the task at place x
@@ -163,6 +74,9 @@ pub record Gain (compare : Comparison) (m : Meaning) (p : ℕ) (s : Search) (x :
   pub first : taskAt s 0 ≡ p
   pub here : x < s .count
   pub gains : gainsFrom compare (shareOn m p) (shareOn m (taskAt s x)) ≡ true
+  pub layered : Layered m s
+  pub gathered : Gathered m s
+  pub early : (y : ℕ) → y < x → EarlyOpen m s y
 
 -- what a search from task p comes to: nothing to gain once no slot is free, or the place of the task that should lose a slot
 abbrev pub Sought : Comparison → Meaning → ℕ → Search → Option ℕ → Type 0

@@ -7,7 +7,9 @@ ghost use Rattle.board.specs.Boards.{Good};
 ghost use Rattle.search.specs.Gains.{shareOn, gainsFrom};
 ghost use Rattle.search.specs.Chains.{Chain, Leads, RestSame};
 ghost use Rattle.search.specs.Founds.{Searched};
-ghost use Rattle.search.specs.Searches.{Linked, MayOpen, Opened, Complete, Spread, Sought, reached, entered, empty};
+ghost use Rattle.search.specs.Trails.{Linked, reached, entered, empty};
+ghost use Rattle.search.specs.Layers.{OpenersTo};
+ghost use Rattle.search.specs.Searches.{MayOpen, Opened, Complete, Spread, Sought};
 use board::Board;
 use board::MOST_CORES;
 use board::MOST_TASKS;
@@ -84,7 +86,7 @@ impl Search {
 fn open_core<B: Board>(board: &B, search: &mut Search, place: usize, core: usize)
     requires good { ⌜ Good meaning ready (now board) ⌝ }
     requires start { ⌜ MayOpen (meaning (now board)) (now search) place core ⌝ }
-    ensures { λ _. ⌜ Opened (meaning (now (board .entry))) (now (search .entry)) (now (search .exit)) core ⌝ }
+    ensures { λ _. ⌜ Opened (meaning (now (board .entry))) (now (search .entry)) (now (search .exit)) place core ⌝ }
 {
     let opening = search.opens;
     search.enter(place, core);
@@ -100,6 +102,7 @@ fn open_wanted<B: Board>(board: &B, search: &mut Search, place: usize)
     requires good { ⌜ Good meaning ready (now board) ⌝ }
     requires complete { ⌜ Complete (meaning (now board)) (now search) ⌝ }
     requires place { ⌜ place < now search .count ⌝ }
+    requires latest { ⌜ OpenersTo (now search) place ⌝ }
     ensures { λ _. ⌜ Spread (meaning (now (board .entry))) (now (search .entry)) (now (search .exit)) place (meaning (now (board .entry)) .cores) ⌝ }
 {
     let task = search.tasks[place];
@@ -205,6 +208,7 @@ fn route_to(search: &Search, place: usize, steps: &mut [Step]) -> usize
     requires place { ⌜ place < now search .count ⌝ }
     requires room { ⌜ mostCores ≤ length (now steps) ⌝ }
     ensures leads { λ r. ⌜ Leads (now (search .entry)) place (now (steps .exit)) r ⌝ }
+    ensures chain { λ r. ⌜ Chain (now (search .entry)) place (now (steps .exit)) r ⌝ }
     ensures few { λ r. ⌜ r ≤ mostCores ⌝ }
     ensures rest { λ r. ⌜ RestSame (now (steps .entry)) (now (steps .exit)) r ⌝ }
 {
@@ -257,7 +261,7 @@ fn route_among<B: Board, R: Rule>(
 }
 
 // A route by which one slot makes the plan fairer, or none. It asks each task in turn whether it should gain, from `start` on and
-// round to it again, and fills the first entries of the list.
+// round to it again, and fills the first entries of the list. No route from that gainer to that loser is shorter.
 pub fn find_route<B: Board, R: Rule>(
     board: &B,
     rule: &R,

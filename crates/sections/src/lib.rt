@@ -1,6 +1,5 @@
 // Which records may follow one another in an order file, and which numbers they may have.
 ghost use mathlib.Core.Path.{_≡_};
-ghost use Prim.Native.Nat.{_≤_};
 ghost use Rattle.records.specs.Cuts.{plain};
 ghost use Rattle.sections.specs.Letters.{headTest};
 ghost use Rattle.sections.specs.Turns.{start, headTold, coreTold, taskTold, taskToldOf, pairTold, endTold, headLeft, coreLeft, taskLeft, pairLeft, endLeft, follows, isEnded};

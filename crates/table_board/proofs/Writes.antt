@@ -1,8 +1,8 @@
 -- What one number written into the cells does to the board that lies there.
-use mathlib.Core.Path.{_≡_, refl, sym, ap, _∙_, fun-ext}
+use mathlib.Core.Path.{_≡_, sym, ap, _∙_, fun-ext}
 use mathlib.Core.List.{List}
 use mathlib.Core.Bool.{true, cond, _&&_}
-use mathlib.Core.Logic.{_⊎_, inl, inr}
+use mathlib.Core.Logic.{inl, inr}
 use Prim.Native.Nat.{ℕ, _+_, _*_, _/_, _%_, _≤_, _<_}
 use native.Mathlib.Omega.{arith}
 use native.Mathlib.Nat.{zero-add}
@@ -12,7 +12,7 @@ use lib.Seq.{getD-set-same, getD-set-other}
 use Rattle.std.proofs.shelf.Ways.{tells}
 use Rattle.std.proofs.shelf.Tests.{cases-eq, cases-lt, and-parts, leb-true}
 use Rattle.std.proofs.shelf.Bits.{mul-add-lt, div-mul-add, mod-mul-add}
-use Rattle.board.specs.Meaning.{Meaning, mostSlots, put, withNeed, withHeld, withCapacity, newBoard, sizesAllowed}
+use Rattle.board.specs.Meaning.{mostSlots, put, withNeed, withHeld, withCapacity, newBoard, sizesAllowed}
 use Rattle.board.proofs.New.{Sizes, allowed}
 use Rattle.table_board.specs.Cells.{numbers, tableFits, grid, table}
 

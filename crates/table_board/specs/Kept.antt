@@ -1,5 +1,5 @@
 -- What is untouched over any number of calls is untouched.
-use mathlib.Core.Path.{_≡_, refl, _∙_}
+use mathlib.Core.Path.{refl, _∙_}
 use Rattle.board.specs.Boards.{Keeping}
 use Rattle.table_board.specs.Table.{Untouched}
 

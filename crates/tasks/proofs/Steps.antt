@@ -1,6 +1,6 @@
 -- How the rows of a table change when one entry is filled, and what a search through them has seen.
 use mathlib.Core.Path.{_≡_, refl, sym, ap, _∙_}
-use mathlib.Core.Bool.{Bool, true, false, not, _||_, _&&_}
+use mathlib.Core.Bool.{true, false, _||_}
 use mathlib.Core.List.{List, [], _∷_, _++_, map}
 use Prim.Native.Nat.{ℕ, zero, suc, _+_, _<_, _≤_}
 use mathlib.Core.Logic.{⊎-elim}
@@ -8,13 +8,13 @@ use native.Mathlib.Omega.{arith}
 use borrow.Rule.Slice.PartMut.{putMid}
 use lib.ListN.{length, getD, take, drop, set}
 use Rattle.std.specs.shelf.Text.{sameBytes}
-use Rattle.std.proofs.shelf.Lists.{at-drop-more, at-drop-all, getD-take, getD-map, length-take-le, length-map, take-more-set, map-push, take-set, drop-set, drop-drop, take-append-drop, getD-past}
+use Rattle.std.proofs.shelf.Lists.{at-drop-more, getD-take, getD-map, length-take-le, length-map, take-more-set, map-push, take-set, drop-set, drop-drop, take-append-drop, getD-past}
 use Rattle.std.proofs.shelf.Ways.{tells, same-from-decides, decides-like}
 use Rattle.std.proofs.shelf.Tests.{cases-lt}
 use Rattle.std.proofs.shelf.Equals.{sameBytes-decides}
 use Rattle.tasks.specs.declared.task.Task.{Task}
 use Rattle.tasks.specs.declared.entries.Entries.{Entries}
-use Rattle.tasks.specs.Rows.{Row, row, taken, nameOf, rowOf, rowsOf, sound, goodWeight, goodName, printableName}
+use Rattle.tasks.specs.Rows.{Row, taken, nameOf, rowOf, rowsOf, sound, goodWeight, goodName, printableName}
 use Rattle.std.specs.declared.option.Option.the-variants.{None}
 use Rattle.tasks.specs.Table.{noRow, nameIn, weightIn, pushWhy}
 

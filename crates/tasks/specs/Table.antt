@@ -12,6 +12,7 @@ use Rattle.board.specs.declared.fault.Refusal.{Refusal}
 use Rattle.board.specs.declared.fault.Refusal.the-variants.{NumberOutOfTurn, ValueOutOfBounds, BadName}
 use Rattle.board.specs.declared.fault.Fault.{Fault}
 use Rattle.board.specs.Refusals.{faultAt}
+use Rattle.board.specs.Meaning.{mostTasks}
 use Rattle.tasks.specs.declared.table.TaskTable.{TaskTable}
 use Rattle.tasks.specs.Rows.{Row, row, rowsOf, taken, goodWeight, goodName}
 
@@ -31,7 +32,7 @@ weightIn rs task = getD rs task noRow .weight
 -- why a row cannot be added: it is not the next one or there is no room, its weight is out of bounds, its name is bad or repeated
 abbrev pub pushWhy : List Row → ℕ → ℕ → List ℕ → Option Refusal
 pushWhy rs task weight name =
-    cond (eqb task (length rs)) (cond (ltb (length rs) 64)
+    cond (eqb task (length rs)) (cond (ltb (length rs) mostTasks)
     (cond (goodWeight weight)
     (cond (goodName name) (cond (taken name rs) (Some BadName) None)
     (Some BadName))

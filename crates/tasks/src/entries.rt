@@ -1,7 +1,8 @@
 // The plain table: room for as many tasks as an order can have.
 use crate::task::Task;
+use board::MOST_TASKS;
 
 #[derive(Drop)]
 pub struct Entries {
-    pub tasks: [Task; 64],
+    pub tasks: [Task; MOST_TASKS],
 }

@@ -7,6 +7,7 @@ ghost use Rattle.std.specs.Vec.{refused};
 ghost use Rattle.std.specs.shelf.Text.{sameBytes};
 ghost use Rattle.tasks.specs.Rows.{nameOf, rowOf, row, goodName, printableName, taken};
 ghost use Rattle.tasks.specs.Table.{rows, pushWhy, pushAnswer, pushAfter};
+use board::MOST_TASKS;
 use board::fault::Fault;
 use board::fault::Refusal;
 
@@ -41,11 +42,13 @@ impl TaskTable {
     {
         let none = Task {
             weight: 1,
-            name: [0; 12],
+            name: [0; LONGEST_NAME],
             length: 0,
         };
         TaskTable {
-            entries: Entries { tasks: [none; 64] },
+            entries: Entries {
+                tasks: [none; MOST_TASKS],
+            },
             count: 0,
         }
     }
@@ -75,7 +78,7 @@ impl TaskTable {
     fn refusal(&self, task: usize, weight: u8, name: &[u8]) -> Option<Refusal>
         ensures { λ r. ⌜ r ≡ pushWhy (rows (now (self .entry))) task weight (now (name .entry)) ⌝ }
     {
-        if task != self.count || self.count >= 64 {
+        if task != self.count || self.count >= MOST_TASKS {
             return Some(Refusal::NumberOutOfTurn);
         }
         if weight < 1 || weight > MOST_WEIGHT {
@@ -134,7 +137,7 @@ fn task_of(weight: u8, name: &[u8]) -> Task
     requires { ⌜ length (now name) ≤ 12 ⌝ }
     ensures { λ r. ⌜ rowOf r ≡ row weight (now (name .entry)) ⌝ }
 {
-    let mut bytes = [0; 12];
+    let mut bytes = [0; LONGEST_NAME];
     bytes[0..name.len()].copy_from_slice(name);
     Task {
         weight,

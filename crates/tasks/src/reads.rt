@@ -7,6 +7,7 @@ ghost use Rattle.tasks.specs.Rows.{nameOf, printableName};
 ghost use Rattle.tasks.specs.Table.{rows, nameIn, weightIn};
 use crate::table::TaskTable;
 use crate::task::Task;
+use board::MOST_TASKS;
 
 impl TaskTable {
     pub fn len(&self) -> usize
@@ -38,13 +39,13 @@ impl TaskTable {
     }
 
     // The weights of all tasks that an order can have.
-    pub fn weights(&self) -> [u8; 64]
+    pub fn weights(&self) -> [u8; MOST_TASKS]
         ensures all { λ r. ⌜ length r ≡ 64 ⌝ }
         ensures each { λ r. ⌜ ((task : ℕ) → getD r task 1 ≡ weightIn (rows (now (self .entry))) task) ⌝ }
         ensures fit { λ r. ⌜ ((task : ℕ) → (1 ≤ getD r task 1) × (getD r task 1 ≤ 100)) ⌝ }
     {
-        let mut weights = [1; 64];
-        for task in 0..64 {
+        let mut weights = [1; MOST_TASKS];
+        for task in 0..MOST_TASKS {
             weights[task] = self.weight(task);
         }
         weights

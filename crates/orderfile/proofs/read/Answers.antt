@@ -1,4 +1,4 @@
-use mathlib.Core.Path.{_≡_, ap, _∙_}
+use mathlib.Core.Path.{ap, _∙_}
 use Rattle.board.specs.Meaning.{cleared}
 use Rattle.orderfile.specs.Reads.{letterOf, boardOf, rowsOf, orderOf, runFrom}
 use Rattle.orderfile.proofs.read.Needs as need

@@ -1,7 +1,5 @@
 use Prim.Native.Nat.{_-_}
 use lib.ListN.{length}
-use Rattle.board.specs.Meaning.{cleared}
-use Rattle.board.specs.Boards.{Went}
 use Rattle.tasks.specs.Table.{rows}
 use Rattle.orderfile.specs.Steps.{reading}
 use Rattle.orderfile.specs.Reads.{runFrom}

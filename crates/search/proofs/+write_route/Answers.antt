@@ -2,7 +2,7 @@ use mathlib.Core.Path.{refl}
 use Prim.Native.Nat.{_≤_, _<_}
 use native.Mathlib.Omega.{arith}
 use lib.ListN.{length}
-use Rattle.search.specs.Searches.{throughAt, openerAt}
+use Rattle.search.specs.Trails.{throughAt, openerAt}
 use Rattle.search.proofs.Back.{chain-none, chain-fits, chain-more, rest-more}
 use Rattle.search.proofs.+write_route.Needs as need
 

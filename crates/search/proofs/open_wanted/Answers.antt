@@ -10,7 +10,7 @@ use Rattle.search.proofs.open_wanted.Needs as need
 use Rattle.search.proofs.open_wanted.Needs.{then-not-search-core·then-held-need, else-not-search-core, else-not-search-core·by·then-not-search-core·else-held-need, else-not-search-core·by·else-not-search-core}
 
 pub loop-core-holds : need.loop-core-holds
-loop-core-holds g c = spread-none _ _ _ (c .pre .complete)
+loop-core-holds g c = spread-none _ _ _ (c .pre .complete) (c .pre .latest)
 
 pub loop-core-again : need.loop-core-again
 loop-core-again g c =

@@ -11,4 +11,4 @@ pub returns : need.returns
 returns g c =
     let m : Meaning = g .B·Board .meaning (c .args .board .now) in
     shown-route (g .R·Rule .order (c .args .rule .now)) (g .R·Rule .lawful (c .args .rule .now)) m (c .pre .good .sound) (c .args .gainer) _ (c .in-Some .place) (c .args .steps .now) _ _
-    (c .in-Some .ensures tt) (c .route-to-count .ensures .leads) (c .route-to-count .ensures .few) (c .route-to-count .ensures .rest)
+    (c .in-Some .ensures tt) (c .route-to-count .ensures .leads) (c .route-to-count .ensures .chain) (c .route-to-count .ensures .few) (c .route-to-count .ensures .rest)

@@ -3,7 +3,8 @@ use Rattle.fairness.specs.Laws.{Comparison}
 use Rattle.board.specs.Meaning.{Meaning}
 use Rattle.search.specs.declared.Search.{Search}
 use mathlib.Core.Bool.{true, false}
-use Rattle.search.specs.Searches.{Trying, reached, taskAt}
+use Rattle.search.specs.Trails.{reached, taskAt}
+use Rattle.search.specs.Searches.{Trying}
 use Rattle.search.proofs.Searches.{trying-start, trying-more, trying-all}
 use Rattle.search.proofs.Shares.{by-shares}
 use Rattle.search.proofs.search_from.Needs as need
@@ -35,6 +36,9 @@ returns-then-should-gain g c =
     record {
       trail = h .complete .trail;
       first = h .first;
+      layered = h .complete .layered;
+      gathered = h .complete .gathered;
+      early = h .early;
       here = c .loop-head-test .taken;
       gains = by-shares (g .R·Rule .order (c .args .rule .now)) m (c .args .gainer) (taskAt (c .loop-head .search) (c .loop-head .head)) _ _ true (c .share-of-share .ensures .is) (c .share-of .ensures .is) (c .if-should-gain .ensures tt);
     }

@@ -1,5 +1,5 @@
 use borrow.Author.Needs.{needs}
-use mathlib.Core.Path.{refl, ap, _∙_}
+use mathlib.Core.Path.{ap, _∙_}
 use Rattle.std.proofs.shelf.Lists.{take-at}
 use Rattle.tasks.specs.Rows.{row}
 use Rattle.tasks.proofs.task_of.Needs as need

@@ -1,5 +1,5 @@
 use mathlib.Core.Path.{_≡_}
-use Prim.Native.Nat.{ℕ, _+_, _*_, _≤_}
+use Prim.Native.Nat.{_+_, _*_, _≤_}
 use Rattle.fairness.specs.Sums.{sumTo}
 use Rattle.board.specs.Meaning.{Meaning, needed}
 use Rattle.board.proofs.Board.pair_count.Given as given

@@ -6,7 +6,7 @@ use lib.ListN.{length}
 use Rattle.std.proofs.shelf.Tests.{and-parts}
 use Rattle.board.specs.Meaning.{Sound, mostSlots, newBoard, sizesAllowed}
 use Rattle.board.proofs.New.{new-sound, empty-sound, allowed, passes, refuses}
-use Rattle.pair_board.specs.Pairs.{pairFits, pairsOf}
+use Rattle.pair_board.specs.Pairs.{pairFits}
 use Rattle.pair_board.proofs.Steps.{all-clear, none-serving, none-counted}
 use Rattle.pair_board.proofs.PairBoard.make.Needs as need
 

@@ -1,13 +1,11 @@
-use mathlib.Core.Path.{_≡_, refl, sym, ap, subst, _∙_}
-use mathlib.Core.Bool.{Bool, true, false}
-use Prim.Native.Nat.{ℕ, _≤_}
+use mathlib.Core.Path.{_≡_, refl, sym, subst}
+use mathlib.Core.Bool.{true}
+use Prim.Native.Nat.{ℕ}
 use native.Mathlib.Omega.{arith}
 use lib.ListN.{length}
-use Rattle.board.specs.Meaning.{Sound, mostSlots, newBoard}
+use Rattle.board.specs.Meaning.{Sound, mostSlots}
 use Rattle.board.proofs.New.{new-sound, passes}
-use Rattle.table_board.specs.declared.TableBoard.{TableBoard}
-use Rattle.table_board.specs.Cells.{tableFits, table}
-use Rattle.table_board.specs.Table.{tableOf, Long, Untouched}
+use Rattle.table_board.specs.Cells.{tableFits}
 use Rattle.table_board.proofs.Writes.{all-zero, fits}
 use Rattle.table_board.proofs.TableBoard.make.Needs as need
 

@@ -1,4 +1,4 @@
-use mathlib.Core.Path.{_≡_, refl}
+use mathlib.Core.Path.{refl}
 use native.Mathlib.Omega.{arith}
 use Rattle.board.proofs.Passed.{clears}
 use Rattle.table_board.specs.declared.TableBoard.{TableBoard}

@@ -1,5 +1,5 @@
 use mathlib.Core.Path.{_≡_}
-use lib.ListN.{take, drop}
+use lib.ListN.{drop}
 use Rattle.tasks.specs.Rows.{taken, rowsOf}
 use Rattle.tasks.proofs.table.TaskTable.has.Given as given
 

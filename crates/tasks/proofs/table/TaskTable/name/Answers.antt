@@ -5,7 +5,7 @@ use native.Mathlib.Omega.{arith}
 use lib.ListN.{length}
 use Rattle.std.proofs.shelf.Lists.{getD-past}
 use Rattle.tasks.specs.Rows.{rowsOf, printableName}
-use Rattle.tasks.specs.Table.{noRow, nameIn}
+use Rattle.tasks.specs.Table.{noRow}
 use Rattle.tasks.proofs.Steps.{length-rows, row-at, sound-name}
 use Rattle.tasks.proofs.table.TaskTable.name.Needs as need
 

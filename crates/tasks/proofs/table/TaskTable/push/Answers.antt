@@ -3,9 +3,9 @@ use mathlib.Core.Bool.{true}
 use mathlib.Core.List.{_∷_, [], _++_}
 use Prim.Native.Nat.{_+_}
 use native.Mathlib.Omega.{arith}
-use lib.ListN.{length, set, length-set}
+use lib.ListN.{length, length-set}
 use Rattle.std.proofs.shelf.Ways.{tells}
-use Rattle.tasks.specs.Rows.{row, rowOf, rowsOf, sound}
+use Rattle.tasks.specs.Rows.{row, rowsOf, sound}
 use Rattle.tasks.specs.Table.{rows, answered, unlessRefused}
 use Rattle.tasks.proofs.Steps.{fresh, length-rows, rows-fill, sound-push}
 use Rattle.tasks.proofs.table.TaskTable.push.Needs as need

@@ -1,0 +1,3 @@
+pub mod Pasting
+pub mod Counts
+pub mod Allowed

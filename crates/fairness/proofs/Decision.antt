@@ -76,24 +76,24 @@ module _ (compare : Comparison) (n m : ℕ) (need : Plan) (capacity : ℕ → �
       let rising = on-board-rising compare (total m need) lawful n (total m need) few in
       let on-board = fairest-on compare n m need capacity held fairest in
       all-from n (λ other. not (layer n m need held task n other) || kept other) (λ other u.
-    elim (cases-bool (layer n m need held task n other)) [
-      | inl x ↦ or-right (not (layer n m need held task n other)) (kept other) (and-from _ _
-          (all-from m _ (λ core v. elim (cases-lt (held other core) (need other core)) [
-            | inl less ↦ or-right (leb (need other core) (held other core)) _ (elim (cases-lt (given n held core) (capacity core)) [
-              | inl free ↦ absurd (reached-no-free board laws n m need capacity (total m need) rising held on-board task other core n l u v low x less free)
-              | inr full ↦ le-leb _ _ full
-            ])
-            | inr has ↦ or-left _ _ (le-leb _ _ has)
-          ]))
-          (elim (cases-eq (total m held other) 0) [
-            | inl e ↦ or-left _ _ (eq-eqb _ _ e)
-            | inr some ↦ or-right (eqb (total m held other) 0) _ (elim (cases-bool (shouldGain compare (shareOf m need held task) (shareOf m need held other))) [
-              | inl gain ↦ absurd (reached-no-gain board laws n m need capacity (total m need) rising held on-board task other n l u low x (omega arith) gain)
-              | inr none ↦ not-from-false _ none
-            ])
-          ]))
-      | inr x ↦ or-left _ _ (not-from-false _ x)
-    ])
+      elim (cases-bool (layer n m need held task n other)) [
+        | inl x ↦ or-right (not (layer n m need held task n other)) (kept other) (and-from _ _
+            (all-from m _ (λ core v. elim (cases-lt (held other core) (need other core)) [
+              | inl less ↦ or-right (leb (need other core) (held other core)) _ (elim (cases-lt (given n held core) (capacity core)) [
+                | inl free ↦ absurd (reached-no-free board laws n m need capacity (total m need) rising held on-board task other core n l u v low x less free)
+                | inr full ↦ le-leb _ _ full
+              ])
+              | inr has ↦ or-left _ _ (le-leb _ _ has)
+            ]))
+            (elim (cases-eq (total m held other) 0) [
+              | inl e ↦ or-left _ _ (eq-eqb _ _ e)
+              | inr some ↦ or-right (eqb (total m held other) 0) _ (elim (cases-bool (shouldGain compare (shareOf m need held task) (shareOf m need held other))) [
+                | inl gain ↦ absurd (reached-no-gain board laws n m need capacity (total m need) rising held on-board task other n l u low x (omega arith) gain)
+                | inr none ↦ not-from-false _ none
+              ])
+            ]))
+        | inr x ↦ or-left _ _ (not-from-false _ x)
+      ])
 
 abbrev settled : Comparison → ℕ → ℕ → Plan → (ℕ → ℕ) → Plan → ℕ → Bool
 settled compare n m need capacity held task = leb (total m need task) (total m held task) || isSafe compare n m need capacity held task

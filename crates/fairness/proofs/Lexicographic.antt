@@ -125,16 +125,16 @@ module _ (n m : ℕ) (need : Plan) (capacity : ℕ → ℕ) (few : Countable n m
         let small : f .slots ≤ mostCounted = elim (f .had) [ inl e ↦ omega (arith, low first fine (f .task) (f .known)) | inr e ↦ omega (arith, low second also (f .task) (f .known)) ] in
         let exact : counted (f .slots) ≡ f .slots = omega arith in
         let less : upTo n (total m first) (counted (f .slots)) < upTo n (total m second) (counted (f .slots)) =
-            omega (arith, f .fewer, even-counts first fine (f .task) (f .slots), even-counts second also (f .task) (f .slots)) in
+        omega (arith, f .fewer, even-counts first fine (f .task) (f .slots), even-counts second also (f .task) (f .slots)) in
         record {
           number = f .slots;
           fewer = rw exact at less;
           lower = λ w l.
               let here : counted w ≡ w = omega arith in
               rw here at (
-                sym (even-counts first fine (f .task) w)
-                ∙ f .lower (f .task) w (f .known) (below-lower w (f .slots) (omega arith))
-                ∙ even-counts second also (f .task) w
+              sym (even-counts first fine (f .task) w)
+              ∙ f .lower (f .task) w (f .known) (below-lower w (f .slots) (omega arith))
+              ∙ even-counts second also (f .task) w
               );
         }
       where

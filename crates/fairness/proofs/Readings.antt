@@ -7,8 +7,7 @@ use Rattle.fairness.proofs.Levels.{cmp, fairer-on, fairer-off}
 
 pub readings-agree : Readings-agree
 readings-agree compare lawful n m need first second =
-    let both = on.readings-agree (cmp compare n m need) (on-board-laws compare (total m need) lawful) n (total m first) (total m second) in
-    (
+    let both = on.readings-agree (cmp compare n m need) (on-board-laws compare (total m need) lawful) n (total m first) (total m second) in (
       λ f. fairer-off compare n m need first second
           (both .0 (record { who = f .task; what = f .slots; one = f .known; had = f .had; fewer = f .fewer; lower = f .lower })),
       λ f.

@@ -35,11 +35,11 @@ passed-once steps next through once t c = elim (some-cases steps (λ s. eqb t (n
         sym e,
         sym (eqb-true c (through s) (p .1)),
         sum-only steps s (λ r. slotAt (next r) (through r) t c) (h .1) (λ r l ne.
-        let other : eqb t (next r) ≡ false = ne-eqb t (next r) (λ x. elim (cases-lt r s) [
-          | inl u ↦ once r s u (h .1) (sym x ∙ e)
-          | inr u ↦ once s r (omega arith) l (sym e ∙ x)
-        ]) in grind (arith, other))
-        ∙ grind (arith, p .0, p .1),
+            let other : eqb t (next r) ≡ false = ne-eqb t (next r) (λ x. elim (cases-lt r s) [
+              | inl u ↦ once r s u (h .1) (sym x ∙ e)
+              | inr u ↦ once s r (omega arith) l (sym e ∙ x)
+            ]) in grind (arith, other))
+            ∙ grind (arith, p .0, p .1),
       )
   | inr h ↦ inr (sum-eq steps (λ s. slotAt (next s) (through s) t c) (λ s. 0) (λ s l. grind (arith, h s l)) ∙ sum-zero steps)
 ]

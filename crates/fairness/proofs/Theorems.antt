@@ -46,15 +46,14 @@ short n m need capacity held feasible task core l u less = sum-lt m core (held t
 pub free-slot-fairer : Free-slot-fairer
 free-slot-fairer compare lawful n m need capacity few before after feasible f =
     let task = f .task in
-    let totals = taken-total n m need capacity before after task (f .core) (f .known-task) (f .known-core) (f .taken) in
-    (
+    let totals = taken-total n m need capacity before after task (f .core) (f .known-task) (f .known-core) (f .taken) in (
       taken-feasible n m need capacity before after task (f .core) (f .known-task) (f .known-core) (f .taken) feasible (f .needed) (f .free),
       fairer-off compare n m need after before
-      (free-fairer (cmp compare n m need) (on-board-laws compare (total m need) lawful) n (total m need) (on-board-rising compare (total m need) lawful n (total m need) few)
-      (total m before) (total m after) task (f .known-task)
-      (short n m need capacity before feasible task (f .core) (f .known-task) (f .known-core) (f .needed))
-      (omega (arith, totals task (f .known-task), same-self task))
-      (λ t l ne. omega (arith, totals t l, same-other t task ne))),
+          (free-fairer (cmp compare n m need) (on-board-laws compare (total m need) lawful) n (total m need) (on-board-rising compare (total m need) lawful n (total m need) few)
+          (total m before) (total m after) task (f .known-task)
+          (short n m need capacity before feasible task (f .core) (f .known-task) (f .known-core) (f .needed))
+          (omega (arith, totals task (f .known-task), same-self task))
+          (λ t l ne. omega (arith, totals t l, same-other t task ne))),
     )
 
 pub exchange-fairer : Exchange-fairer
@@ -65,18 +64,17 @@ exchange-fairer compare lawful n m need capacity few before after feasible f =
     let pl : p < n = route .tasks 0 (omega arith) in
     let ql : q < n = route .tasks (f .steps) (omega arith) in
     let ne : p ≡ q → ⊥ = route .no-task-twice 0 (f .steps) (route .some) (omega arith) in
-    let totals = exchange-total n m need before (f .steps) (f .at) (f .through) route after (f .exchanged) in
-    (
+    let totals = exchange-total n m need before (f .steps) (f .at) (f .through) route after (f .exchanged) in (
       exchange-feasible n m need before (f .steps) (f .at) (f .through) route after (f .exchanged) capacity feasible,
       fairer-off compare n m need after before
-      (gain-fairer (cmp compare n m need) (on-board-laws compare (total m need) lawful) n (total m need) (on-board-rising compare (total m need) lawful n (total m need) few)
-      (total m before) (total m after) p q pl ql ne
-      (short n m need capacity before feasible p (f .through 0) pl (route .cores 0 (route .some)) (route .needs 0 (route .some)))
-      (capped-whole n m need capacity before feasible q ql)
-      (omega (arith, totals p pl, same-self p, same-other p q ne))
-      (omega (arith, totals q ql, same-self q, same-other q p (λ e. ne (sym e))))
-      (λ t l x y. omega (arith, totals t l, same-other t p x, same-other t q y))
-      (f .passes)),
+          (gain-fairer (cmp compare n m need) (on-board-laws compare (total m need) lawful) n (total m need) (on-board-rising compare (total m need) lawful n (total m need) few)
+          (total m before) (total m after) p q pl ql ne
+          (short n m need capacity before feasible p (f .through 0) pl (route .cores 0 (route .some)) (route .needs 0 (route .some)))
+          (capped-whole n m need capacity before feasible q ql)
+          (omega (arith, totals p pl, same-self p, same-other p q ne))
+          (omega (arith, totals q ql, same-self q, same-other q p (λ e. ne (sym e))))
+          (λ t l x y. omega (arith, totals t l, same-other t p x, same-other t q y))
+          (f .passes)),
     )
 
 -- no free slot and no fairer route: each task's reach is a closed set in which it gains nothing

@@ -35,7 +35,7 @@ losesNone compare m need held task other = eqb (total m held other) 0 || not (sh
 -- no task that is reached could take a free slot or should lose one to it
 abbrev pub isSafe : Comparison → ℕ → ℕ → Plan → (ℕ → ℕ) → Plan → ℕ → Bool
 isSafe compare n m need capacity held task = allTo n (λ other.
-  not (layer n m need held task n other) || (allTo m (takesNone n need capacity held other) && losesNone compare m need held task other))
+    not (layer n m need held task n other) || (allTo m (takesNone n need capacity held other) && losesNone compare m need held task other))
 
 abbrev pub isFairest : Comparison → ℕ → ℕ → Plan → (ℕ → ℕ) → Plan → Bool
 isFairest compare n m need capacity held =
@@ -45,7 +45,7 @@ abbrev pub Fairest-decided : Type 0
 Fairest-decided =
     (compare : Comparison) → Lawful compare → (n m : ℕ) (need : Plan) (capacity : ℕ → ℕ) → Countable n m need → (held : Plan)
     → (isFairest compare n m need capacity held ≡ true → Fairest compare n m need capacity held)
-      × (isFairest compare n m need capacity held ≡ false → Fairest compare n m need capacity held → ⊥)
+    × (isFairest compare n m need capacity held ≡ false → Fairest compare n m need capacity held → ⊥)
 
 -- the tasks at or below a level, where the tasks have these whole needs and totals
 abbrev pub countAt : Comparison → ℕ → (ℕ → ℕ) → (ℕ → ℕ) → Share → ℕ
@@ -54,8 +54,8 @@ countAt compare n whole totals level = sumTo n (λ task. cond (atMost (compare (
 -- equally many at or below each level that a task has with either totals
 abbrev pub sameCounts : Comparison → ℕ → (ℕ → ℕ) → (ℕ → ℕ) → (ℕ → ℕ) → Bool
 sameCounts compare n whole first second = allTo n (λ task.
-  eqb (countAt compare n whole first (shareWith whole task (first task))) (countAt compare n whole second (shareWith whole task (first task)))
-  && eqb (countAt compare n whole first (shareWith whole task (second task))) (countAt compare n whole second (shareWith whole task (second task))))
+    eqb (countAt compare n whole first (shareWith whole task (first task))) (countAt compare n whole second (shareWith whole task (first task)))
+    && eqb (countAt compare n whole first (shareWith whole task (second task))) (countAt compare n whole second (shareWith whole task (second task))))
 
 abbrev pub withTotal : (ℕ → ℕ) → ℕ → ℕ → ℕ → ℕ
 withTotal totals task amount t = cond (eqb t task) amount (totals t)
@@ -70,7 +70,7 @@ allNear (suc k) totals others passes =
 -- no other totals within one have the same levels
 abbrev pub isOnly : Comparison → ℕ → ℕ → Plan → Plan → Bool
 isOnly compare n m need held = allNear n (total m held) (total m held) (λ others.
-  allTo n (λ task. eqb (others task) (total m held task)) || not (sameCounts compare n (total m need) (total m held) others))
+    allTo n (λ task. eqb (others task) (total m held task)) || not (sameCounts compare n (total m need) (total m held) others))
 
 abbrev pub isRoute : ℕ → ℕ → Plan → Plan → ℕ → (ℕ → ℕ) → (ℕ → ℕ) → Bool
 isRoute n m need held steps at through =

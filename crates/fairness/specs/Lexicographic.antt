@@ -42,4 +42,4 @@ abbrev pub Even-lexicographic : Type 0
 Even-lexicographic =
     (n m : ℕ) (need : Plan) (capacity : ℕ → ℕ) → Countable n m need → (held : Plan)
     → (Fairest even n m need capacity held → LexicographicallyFair n m need capacity held)
-      × (LexicographicallyFair n m need capacity held → Fairest even n m need capacity held)
+    × (LexicographicallyFair n m need capacity held → Fairest even n m need capacity held)

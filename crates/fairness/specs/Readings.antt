@@ -23,4 +23,4 @@ abbrev pub Readings-agree : Type 0
 Readings-agree =
     (compare : Comparison) → Lawful compare → (n m : ℕ) (need first second : Plan)
     → (FairerAmongHad compare n m need first second → Fairer compare n m need first second)
-      × (Fairer compare n m need first second → FairerAmongHad compare n m need first second)
+    × (Fairer compare n m need first second → FairerAmongHad compare n m need first second)

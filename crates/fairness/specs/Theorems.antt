@@ -39,7 +39,7 @@ Fairest-exactly =
     (compare : Comparison) → Lawful compare → (n m : ℕ) (need : Plan) (capacity : ℕ → ℕ) → Countable n m need
     → (held : Plan) → Feasible n m need capacity held
     → (Fairest compare n m need capacity held → NoneFree n m need capacity held × NoFairerRoute compare n m need held)
-      × (NoneFree n m need capacity held → NoFairerRoute compare n m need held → Fairest compare n m need capacity held)
+    × (NoneFree n m need capacity held → NoFairerRoute compare n m need held → Fairest compare n m need capacity held)
 
 -- two fairest plans have the same list of levels
 abbrev pub Fairest-same-levels : Type 0
@@ -62,4 +62,4 @@ abbrev pub Levelling-ends : Type 0
 Levelling-ends =
     (compare : Comparison) → Lawful compare → (n m : ℕ) (need : Plan) (capacity : ℕ → ℕ) → Countable n m need
     → (measure : Plan → ℕ) × ((before after : Plan) → Feasible n m need capacity before
-      → FreeSlotTaken n m need capacity before after ⊎ FairExchange compare n m need before after → measure after < measure before)
+    → FreeSlotTaken n m need capacity before after ⊎ FairExchange compare n m need before after → measure after < measure before)

@@ -43,9 +43,9 @@ all-pairs-few kind tasks cores amounts few = each-few tasks 16 (taskPairs kind c
 -- few lines more are still few
 pub few-on : {a b : List ℕ} {from to : Extent} {lines : List Line} (most more all : ℕ) → Few most from → Continued a b from to lines → length lines ≤ more → most + more ≤ all → Few all to
 few-on most more all few done short fit = record {
-      bytes = omega (arith, few .bytes, done .near);
-      records = omega (arith, few .records, done .counted, short, fit);
-    }
+  bytes = omega (arith, few .bytes, done .near);
+  records = omega (arith, few .records, done .counted, short, fit);
+}
 
 pub few-more : {done : Extent} (most all : ℕ) → most ≤ all → Few most done → Few all done
 few-more most all more few = record { bytes = few .bytes; records = omega (arith, few .records) }

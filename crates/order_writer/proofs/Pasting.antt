@@ -24,7 +24,7 @@ pasted-more out at xs ys inside =
     let long : length (p ++ xs) ≡ mid = omega (arith, length-append p xs, length-take-le at out inside) in
     let far : mid + length ys ≡ at + length (xs ++ ys) = omega (arith, length-append xs ys) in
     let behind : drop (mid + length ys) ((p ++ xs) ++ rest) ≡ drop (at + length (xs ++ ys)) out =
-      sym (drop-drop (length ys) mid ((p ++ xs) ++ rest)) ∙ ap (drop (length ys)) (drop-at (p ++ xs) rest mid long) ∙ drop-drop (length ys) mid out ∙ ap (λ n. drop n out) far in
+    sym (drop-drop (length ys) mid ((p ++ xs) ++ rest)) ∙ ap (drop (length ys)) (drop-at (p ++ xs) rest mid long) ∙ drop-drop (length ys) mid out ∙ ap (λ n. drop n out) far in
     let end = drop (at + length (xs ++ ys)) out in
     ap (λ o. pasted o mid ys) whole
     ∙ ap (λ l. l ++ (ys ++ drop (mid + length ys) ((p ++ xs) ++ rest))) (take-at (p ++ xs) rest mid long)
@@ -44,14 +44,14 @@ length-pasted out at xs inside =
 
 pub put-on : {a b c : List ℕ} {at mid next : ℕ} {xs ys : List ℕ} → Put a b at mid xs → Put b c mid next ys → Put a c at next (xs ++ ys)
 put-on {a} {b} {c} {at} {mid} {next} {xs} {ys} first second = record {
-      onward = omega (arith, first .onward, second .onward, length-append xs ys);
-      fits = λ room.
-        second .fits (omega (arith, first .size))
-        ∙ ap (λ o. pasted o mid ys) (first .fits (omega (arith, first .onward, second .onward)))
-        ∙ ap (λ n. pasted (pasted a at xs) n ys) (first .onward)
-        ∙ pasted-more a at xs ys (omega (arith, first .onward, second .onward));
-      size = second .size ∙ first .size;
-    }
+  onward = omega (arith, first .onward, second .onward, length-append xs ys);
+  fits = λ room.
+      second .fits (omega (arith, first .size))
+      ∙ ap (λ o. pasted o mid ys) (first .fits (omega (arith, first .onward, second .onward)))
+      ∙ ap (λ n. pasted (pasted a at xs) n ys) (first .onward)
+      ∙ pasted-more a at xs ys (omega (arith, first .onward, second .onward));
+  size = second .size ∙ first .size;
+}
 
 pub bytes-join : (xs ys : List Line) → bytesOf (xs ++ ys) ≡ bytesOf xs ++ bytesOf ys
 bytes-join [] ys = refl
@@ -61,10 +61,10 @@ bytes-join (x ∷ xs) ys =
 
 pub continued-none : (out : List ℕ) (done : Extent) → Continued out out done done []
 continued-none out done = record {
-      bytes = record { onward = sym (add-zero (done .bytes)); fits = λ _. sym (pasted-none out (done .bytes)); size = refl };
-      counted = sym (add-zero (done .records));
-      near = omega arith;
-    }
+  bytes = record { onward = sym (add-zero (done .bytes)); fits = λ _. sym (pasted-none out (done .bytes)); size = refl };
+  counted = sym (add-zero (done .records));
+  near = omega arith;
+}
 
 pub continued-on : {a b c : List ℕ} {from mid to : Extent} {xs ys : List Line} → Continued a b from mid xs → Continued b c mid to ys → Continued a c from to (xs ++ ys)
 continued-on {a} {b} {c} {from} {mid} {to} {xs} {ys} first second =

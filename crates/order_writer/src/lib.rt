@@ -21,7 +21,12 @@ pub mod extent;
 use extent::Extent;
 
 // Writes the order and answers its length; refused, the output is as it was.
-pub fn write<B: Board>(board: &B, tasks: &TaskTable, letter: u8, out: &mut [u8]) -> Result<usize, Fault>
+pub fn write<B: Board>(
+    board: &B,
+    tasks: &TaskTable,
+    letter: u8,
+    out: &mut [u8],
+) -> Result<usize, Fault>
     requires { ⌜ Good meaning ready (now board) ⌝ }
     ensures told { λ r. ⌜ r ≡ told (writeWhy letter (rows (now (tasks .entry))) (meaning (now (board .entry))) (length (now (out .entry)))) (length (fileOf letter (rows (now (tasks .entry))) (meaning (now (board .entry))))) ⌝ }
     ensures left { λ r. ⌜ now (out .exit) ≡ left (writeWhy letter (rows (now (tasks .entry))) (meaning (now (board .entry))) (length (now (out .entry)))) (fileOf letter (rows (now (tasks .entry))) (meaning (now (board .entry)))) (now (out .entry)) ⌝ }
@@ -72,7 +77,12 @@ fn put_head<B: Board>(board: &B, letter: u8, out: &mut [u8]) -> Extent
         bytes: 0,
         records: 0,
     };
-    put_record(out, start, Kind::Head, &[letter, board.tasks() as u8, board.cores() as u8])
+    put_record(
+        out,
+        start,
+        Kind::Head,
+        &[letter, board.tasks() as u8, board.cores() as u8],
+    )
 }
 
 fn put_cores<B: Board>(board: &B, out: &mut [u8], from: Extent) -> Extent
@@ -114,7 +124,11 @@ fn put_task(out: &mut [u8], from: Extent, task: u8, weight: u8, name: &[u8]) -> 
     ensures { λ r. ⌜ Continued (now (out .entry)) (now (out .exit)) from r (line Task (task ∷ weight ∷ now (name .entry)) ∷ []) ⌝ }
 {
     let length = 4 + name.len() as u8;
-    let at = put_bytes(out, from.bytes, &[length, 0, number_of(Kind::Task), 0, task, weight]);
+    let at = put_bytes(
+        out,
+        from.bytes,
+        &[length, 0, number_of(Kind::Task), 0, task, weight],
+    );
     Extent {
         bytes: put_bytes(out, at, name),
         records: from.records + 1,
@@ -136,7 +150,13 @@ fn put_pairs<B: Board>(board: &B, kind: Kind, out: &mut [u8], from: Extent) -> E
 }
 
 // The lines of one task, rising by core.
-fn put_task_pairs<B: Board>(board: &B, kind: Kind, task: usize, out: &mut [u8], from: Extent) -> Extent
+fn put_task_pairs<B: Board>(
+    board: &B,
+    kind: Kind,
+    task: usize,
+    out: &mut [u8],
+    from: Extent,
+) -> Extent
     requires good { ⌜ Good meaning ready (now board) ⌝ }
     requires known { ⌜ task < 64 ⌝ }
     requires few { ⌜ Few 2500 from ⌝ }

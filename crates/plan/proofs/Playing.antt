@@ -91,11 +91,11 @@ ran-more compare m calls place notes a b note inside room ran told order sound f
     let next : presentAt m calls (place + 1) ≡ called present call = folded-more called m calls place (SetNeed 0 0 0) inside in
     let came : called a call ≡ planned (called present call) (ran .plans place) = ap (λ (z : Meaning). called z call) (ran .ends) ∙ called-planned present (ran .plans place) call in
     let new : planned (called a call) (b .held) ≡ planned (presentAt m calls (place + 1)) (b .held) =
-        ap (λ (z : Meaning). planned z (b .held)) came ∙ ap (λ (z : Meaning). planned z (b .held)) (sym next) in
+    ap (λ (z : Meaning). planned z (b .held)) came ∙ ap (λ (z : Meaning). planned z (b .held)) (sym next) in
     let ends : b ≡ boardAt m calls plans (place + 1) =
-        order ∙ (new ∙ ap (planned (presentAt m calls (place + 1))) (sym (more-new (ran .plans) place (b .held)))) in
+    order ∙ (new ∙ ap (planned (presentAt m calls (place + 1))) (sym (more-new (ran .plans) place (b .held)))) in
     let old : (k : ℕ) → k ≤ place → boardAt m calls (ran .plans) k ≡ boardAt m calls plans k =
-        λ k h. ap (planned (presentAt m calls k)) (sym (more-old (ran .plans) place (b .held) k h)) in
+    λ k h. ap (planned (presentAt m calls k)) (sym (more-old (ran .plans) place (b .held) k h)) in
     let here : note ≡ noteAt (set notes place note) place = sym (getD-set-same notes place note _ room) in
     let earlier : (k : ℕ) → k < place → noteAt notes k ≡ noteAt (set notes place note) k = λ k h. sym (getD-set-other notes place k note _ (λ e. omega arith)) in
     record {
@@ -154,7 +154,7 @@ pub ran-since : (compare : Comparison) (m levelled : Meaning) (calls : List Call
 ran-since compare m levelled calls count notes end order ran =
     let held : Plan = levelled .held in
     let from : (k : ℕ) → presentAt levelled calls k ≡ planned (presentAt m calls k) held =
-        λ k. ap (λ (z : Meaning). folded called z (take k calls)) order ∙ present-planned m held (take k calls) in
+    λ k. ap (λ (z : Meaning). folded called z (take k calls)) order ∙ present-planned m held (take k calls) in
     let same : (k : ℕ) → boardAt levelled calls (ran .plans) k ≡ boardAt m calls (ran .plans) k = λ k. ap (λ (z : Meaning). planned z (ran .plans k)) (from k) in
     record {
       plans = ran .plans;

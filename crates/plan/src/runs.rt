@@ -107,7 +107,10 @@ impl<'a, B: Board, R: Rule> State<'a, B, R> {
 }
 
 // Makes a call that is in turn.
-fn step<'a, B: Board, R: Rule>(state: State<'a, B, R>, call: Call) -> (State<'a, B, R>, Result<(), Fault>)
+fn step<'a, B: Board, R: Rule>(
+    state: State<'a, B, R>,
+    call: Call,
+) -> (State<'a, B, R>, Result<(), Fault>)
     requires standing { ⌜ Standing meaning ready (order (ruleOf state)) (now (lentOf state)) ⌝ }
     requires turn { ⌜ inTurn (isWorking state) call ≡ true ⌝ }
     ensures lent { λ r. ⌜ name (lentOf (r .0)) ≡ name (lentOf (state .entry)) ⌝ }
@@ -151,7 +154,12 @@ fn play<B: Board, R: Rule>(board: &mut B, rule: R, calls: &[Call], notes: &mut [
 }
 
 // Makes a plan on the board and plays the calls, with a note of each; or refuses before anything is done.
-pub fn run<B: Board, R: Rule>(board: &mut B, rule: R, calls: &[Call], notes: &mut [Note]) -> Result<(), RunRefusal>
+pub fn run<B: Board, R: Rule>(
+    board: &mut B,
+    rule: R,
+    calls: &[Call],
+    notes: &mut [Note],
+) -> Result<(), RunRefusal>
     requires { ⌜ Good meaning ready (now board) ⌝ }
     ensures went { λ _. ⌜ Went meaning ready kept (now (board .entry)) (now (board .exit)) ⌝ }
     ensures told { λ r. ⌜ RunTold meaning (order rule) (now (board .entry)) (now (board .exit)) (now (calls .entry)) (now (notes .entry)) (now (notes .exit)) r ⌝ }

@@ -81,13 +81,21 @@ pub fn report_of(heap: Global, file: &[u8]) -> Result<Report, AllocError>
         Ok((_, n, m)) => (n as usize, m as usize),
         Err(fault) => return refuse(heap, fault),
     };
-    let mut entries = [Entry { task: 0, core: 0, need: 0, held: 0 }; ENTRIES];
+    let mut entries = [Entry {
+        task: 0,
+        core: 0,
+        need: 0,
+        held: 0,
+    }; ENTRIES];
     let mut board = PairBoard::make(n, m, &mut entries);
     let mut tasks = TaskTable::new();
     match read(file, &mut board, &mut tasks) {
         Ok(letter) => {
             let text = show_by_letter(heap, &mut board, letter, &tasks)?;
-            Ok(Report { text, refused: false })
+            Ok(Report {
+                text,
+                refused: false,
+            })
         }
         Err(fault) => refuse(heap, fault),
     }
@@ -97,5 +105,8 @@ fn refuse(heap: Global, fault: Fault) -> Result<Report, AllocError>
     ensures { λ r. ⌜ made r (λ report. Reported (Err fault) (report .refused) (vec-items (report .text))) ⌝ }
 {
     let text = refusal_text(heap, fault)?;
-    Ok(Report { text, refused: true })
+    Ok(Report {
+        text,
+        refused: true,
+    })
 }

@@ -32,8 +32,7 @@ tested-holds e few held (claims.free-slots amount) h = eqb-true _ _ h
 tested-holds e few held (claims.fairer-route along through) h =
     let x = and-parts (isFeasible (tasks e) (cores e) (need e) (capacity e) held) _ h in
     let y = and-parts (isRoute (tasks e) (cores e) (need e) held (length through) (listed along) (listed through)) _ (x .1) in
-    let route = route-from (tasks e) (cores e) (need e) held (length through) (listed along) (listed through) (y .0) in
-    (
+    let route = route-from (tasks e) (cores e) (need e) held (length through) (listed along) (listed through) (y .0) in (
       route,
       λ after made.
           exchange-fairer (e .compare) (e .lawful) (tasks e) (cores e) (need e) (capacity e) few held after

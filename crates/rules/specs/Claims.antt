@@ -66,7 +66,7 @@ Holds e held (free-slots amount) = freeSlots e held ≡ amount
 Holds e held (fairer-route along through) =
     Route (tasks e) (cores e) (need e) held (length through) (listed along) (listed through)
     × ((after : Plan) → Exchanged (tasks e) (cores e) (length through) (listed along) (listed through) held after
-      → Fairer (e .compare) (tasks e) (cores e) (need e) after held)
+    → Fairer (e .compare) (tasks e) (cores e) (need e) after held)
 
 -- the test of a claim
 abbrev pub tested : Example → Plan → Claim → Bool

@@ -59,7 +59,7 @@ fairest-alike compare lawful a b sa sb fa fb same =
     let Y : Plan → Type 0 = λ z. Fairest compare (a .tasks) (a .cores) z (b .capacity) (b .held) in
     let Z : (ℕ → ℕ) → Type 0 = λ z. Fairest compare (a .tasks) (a .cores) (a .need) z (b .held) in
     let second : Fairest compare (a .tasks) (a .cores) (a .need) (a .capacity) (b .held) =
-        subst Z capacities (subst Y needs (subst X (sym (same .cores)) (subst W (sym (same .tasks)) fb))) in
+    subst Z capacities (subst Y needs (subst X (sym (same .cores)) (subst W (sym (same .tasks)) fb))) in
     let few = countable a sa in
     let U : ℕ → Type 0 = λ z. (task : ℕ) → task < a .tasks → total (a .cores) (a .held) task ≤ total z (b .held) task + 1 in
     let V : ℕ → Type 0 = λ z. (task : ℕ) → task < a .tasks → total z (b .held) task ≤ total (a .cores) (a .held) task + 1 in
@@ -73,6 +73,6 @@ fairest-alike compare lawful a b sa sb fa fb same =
 pub ran-evenly : (m end : Meaning) (calls : List Call) (notes : List Note) → Ran even m calls notes end → RanEvenly m calls notes end
 ran-evenly m end calls notes ran =
     let fair : (k : ℕ) → k ≤ length calls → LexicographicallyFairOn (boardAt m calls (ran .plans) k) = λ k h.
-        let board : Meaning = boardAt m calls (ran .plans) k in
-        even-lexicographic (board .tasks) (board .cores) (board .need) (board .capacity) (countable board (ran .sound k h)) (board .held) .0 (ran .fairest k h) in
+    let board : Meaning = boardAt m calls (ran .plans) k in
+    even-lexicographic (board .tasks) (board .cores) (board .need) (board .capacity) (countable board (ran .sound k h)) (board .held) .0 (ran .fairest k h) in
     record { ran = ran; fair = fair; fair-end = subst LexicographicallyFairOn (sym (ran .ends)) (fair (length calls) (omega arith)) }

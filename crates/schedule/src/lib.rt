@@ -33,7 +33,13 @@ pub struct TwoEndings {
 }
 
 // Plays the calls on the board, and has the judge look at what they left.
-pub fn run_and_judge<B: Board, R: Rule>(board: &mut B, rule: R, calls: &[Call], notes: &mut [Note], route: &mut [Step]) -> Ending
+pub fn run_and_judge<B: Board, R: Rule>(
+    board: &mut B,
+    rule: R,
+    calls: &[Call],
+    notes: &mut [Note],
+    route: &mut [Step],
+) -> Ending
     requires { ⌜ Good meaning ready (now board) ⌝ }
     ensures { λ r. ⌜ Ended meaning ready kept (order rule) (now (board .entry)) (now (board .exit)) (now (calls .entry)) (now (notes .entry)) (now (notes .exit)) (now (route .entry)) (now (route .exit)) r ⌝ }
 {
@@ -67,7 +73,11 @@ pub fn compare_runs<A: Board, B: Board, R: Rule>(
 }
 
 // A run under the even rule: every plan of it is distributed lexicographically fair.
-pub fn run_evenly<B: Board>(board: &mut B, calls: &[Call], notes: &mut [Note]) -> Result<(), RunRefusal>
+pub fn run_evenly<B: Board>(
+    board: &mut B,
+    calls: &[Call],
+    notes: &mut [Note],
+) -> Result<(), RunRefusal>
     requires { ⌜ Good meaning ready (now board) ⌝ }
     ensures went { λ _. ⌜ Went meaning ready kept (now (board .entry)) (now (board .exit)) ⌝ }
     ensures told { λ r. ⌜ RunTold meaning even (now (board .entry)) (now (board .exit)) (now (calls .entry)) (now (notes .entry)) (now (notes .exit)) r ⌝ }

@@ -28,8 +28,11 @@ pub pairs-below : (m : Meaning) (task core : ℕ) → task < m .tasks → core <
 pairs-below m task core tn cm free =
     let row : ℕ → ℕ = λ t. sumTo (m .cores) (λ c. needed (m .need t c)) in
     let most : (t : ℕ) → row t ≤ m .cores = λ t. omega (arith, sum-ones (m .cores), sum-le (m .cores) (λ c. needed (m .need t c)) (λ _. 1) (λ c _. needed-le (m .need t c))) in
-    let here : row task < m .cores = omega (arith, sum-ones (m .cores),
-        sum-lt (m .cores) core (λ c. needed (m .need task c)) (λ _. 1) cm (omega (arith, needed-none (m .need task core) free)) (λ c _. needed-le (m .need task c))) in
+    let here : row task < m .cores = omega (
+      arith,
+      sum-ones (m .cores),
+      sum-lt (m .cores) core (λ c. needed (m .need task c)) (λ _. 1) cm (omega (arith, needed-none (m .need task core) free)) (λ c _. needed-le (m .need task c)),
+    ) in
     omega (arith, sum-same (m .tasks) (m .cores), sum-lt (m .tasks) task row (λ _. m .cores) tn here (λ t _. most t))
 
 -- a plan that lies below a feasible one at each pair can be given the feasible one's slots at a pair
@@ -39,7 +42,7 @@ pub held-done : (m : Meaning) (most : Plan) (task core : ℕ) → task < m .task
 held-done m most task core tn cm within room below =
     let v = most task core in
     let under : givenAt (withHeld m task core v) core ≤ given (m .tasks) most core
-        = sum-le (m .tasks) (λ t. put (m .held) task core v t core) (λ t. most t core) (λ t _. grind (arith, below t core)) in
+    = sum-le (m .tasks) (λ t. put (m .held) task core v t core) (λ t. most t core) (λ t _. grind (arith, below t core)) in
     done-held m task core v tn cm within (omega (arith, under, given-put m task core v tn))
 
 capacity-beyond : (m : Meaning) → Sound m → (core : ℕ) → m .cores ≤ core → m .capacity core ≡ 0
@@ -83,7 +86,7 @@ needs-more from old m b task core v so room tn cm ve me be =
     let cs : core < old .cores = omega (arith, room .cores) in
     let most : old .tasks * old .cores ≡ old .greatest-pairs = ap (λ z. z * old .cores) (room .tasks) ∙ (ap (λ z. from .tasks * z) (room .cores) ∙ sym (room .pairs)) in
     let e = done-need s task core (from .need task core) ts cs (so .small task core) (omega arith)
-        (λ some free. omega (arith, most, pairs-below s task core ts cs free)) in
+    (λ some free. omega (arith, most, pairs-below s task core ts cs free)) in
     be ∙ (ap (λ z. after z (setNeed z task core v)) me ∙ (ap (λ z. after s (setNeed s task core z)) ve ∙ (ap (after s) e ∙ ap (ordered old (old .capacity)) (row-put (from .need) base task core))))
 
 pub needs-row : (from old m : Meaning) (task core : ℕ) → Sound from → core ≡ from .cores

@@ -20,12 +20,12 @@ row-here new old task core = grind (arith, tells)
 
 pub row-put : (new old : Plan) (task core : ℕ) → put (rowTo new old task core) task core (new task core) ≡ rowTo new old task (core + 1)
 row-put new old task core = fun-ext (λ t. fun-ext (λ c. elim (cases-eq t task) [
-    | inl e ↦ elim (cases-eq c core) [
-      | inl f ↦ rw (e, f) (grind (arith, tells))
-      | inr f ↦ grind (arith, tells)
-    ]
-    | inr e ↦ grind (arith, tells)
-  ]))
+  | inl e ↦ elim (cases-eq c core) [
+    | inl f ↦ rw (e, f) (grind (arith, tells))
+    | inr f ↦ grind (arith, tells)
+  ]
+  | inr e ↦ grind (arith, tells)
+]))
 
 pub row-le : (new old most : Plan) (task bound : ℕ) → ((t c : ℕ) → new t c ≤ most t c) → ((t c : ℕ) → old t c ≤ most t c) → (t c : ℕ) → rowTo new old task bound t c ≤ most t c
 row-le new old most task bound p q t c = grind (arith, tells, p t c, q t c)
@@ -37,19 +37,19 @@ tasks-start new old = fun-ext (λ t. fun-ext (λ c. grind (arith, tells)))
 pub tasks-row : (new old next : Plan) (task cores : ℕ) → ((t c : ℕ) → cores ≤ c → new t c ≡ old t c) → ((c : ℕ) → next task c ≡ new task c)
     → rowTo next (tasksTo new old task) task cores ≡ tasksTo new old (task + 1)
 tasks-row new old next task cores same here = fun-ext (λ t. fun-ext (λ c. elim (cases-eq t task) [
-    | inl e ↦ elim (cases-lt c cores) [
-      | inl l ↦ let f = here c in rw e (grind (arith, tells))
-      | inr l ↦ let f = same t c l in grind (arith, tells)
-    ]
-    | inr e ↦ grind (arith, tells)
-  ]))
+  | inl e ↦ elim (cases-lt c cores) [
+    | inl l ↦ let f = here c in rw e (grind (arith, tells))
+    | inr l ↦ let f = same t c l in grind (arith, tells)
+  ]
+  | inr e ↦ grind (arith, tells)
+]))
 
 -- all tasks
 pub tasks-all : (new old : Plan) (tasks : ℕ) → ((t c : ℕ) → tasks ≤ t → new t c ≡ old t c) → tasksTo new old tasks ≡ new
 tasks-all new old tasks same = fun-ext (λ t. fun-ext (λ c. elim (cases-lt t tasks) [
-    | inl l ↦ grind (arith, tells)
-    | inr l ↦ let e = same t c l in grind (arith, tells)
-  ]))
+  | inl l ↦ grind (arith, tells)
+  | inr l ↦ let e = same t c l in grind (arith, tells)
+]))
 
 pub tasks-le : (new old most : Plan) (bound : ℕ) → ((t c : ℕ) → new t c ≤ most t c) → ((t c : ℕ) → old t c ≤ most t c) → (t c : ℕ) → tasksTo new old bound t c ≤ most t c
 tasks-le new old most bound p q t c = grind (arith, tells, p t c, q t c)
@@ -59,12 +59,12 @@ capacities-start capacity = fun-ext (λ c. grind (arith, tells))
 
 pub capacities-put : (capacity : ℕ → ℕ) (core : ℕ) → (λ (c : ℕ). cond (eqb c core) (capacity core) (capacitiesTo capacity core c)) ≡ capacitiesTo capacity (core + 1)
 capacities-put capacity core = fun-ext (λ c. elim (cases-eq c core) [
-    | inl e ↦ rw e (grind (arith, tells))
-    | inr e ↦ grind (arith, tells)
-  ])
+  | inl e ↦ rw e (grind (arith, tells))
+  | inr e ↦ grind (arith, tells)
+])
 
 pub capacities-all : (capacity : ℕ → ℕ) (cores : ℕ) → ((c : ℕ) → cores ≤ c → capacity c ≡ 0) → capacitiesTo capacity cores ≡ capacity
 capacities-all capacity cores none = fun-ext (λ c. elim (cases-lt c cores) [
-    | inl l ↦ grind (arith, tells)
-    | inr l ↦ let e = none c l in grind (arith, tells)
-  ])
+  | inl l ↦ grind (arith, tells)
+  | inr l ↦ let e = none c l in grind (arith, tells)
+])

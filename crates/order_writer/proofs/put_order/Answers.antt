@@ -39,7 +39,7 @@ returns g c =
     let named = after-tasks (c .args .tasks .now) cores (c .put-tasks-named .ensures) in
     let needs = after-pairs 81 Need (m .tasks) (m .cores) (m .need) (s .few-tasks) (s .few-cores) named (c .put-pairs-needs .ensures) in
     let P : ℕ → Type 0 = λ n. Continued (c .args .out .now) (c .put-pairs .last .out) nothing (c .put-pairs .result)
-        (headLine (c .args .letter) n (m .cores) ++ (each (m .cores) (coreLine (m .capacity)) ++ (each (length rs) (taskLine rs) ++ (pairLines Need n (m .cores) (m .need) ++ pairLines Slots n (m .cores) (m .held))))) in
+    (headLine (c .args .letter) n (m .cores) ++ (each (m .cores) (coreLine (m .capacity)) ++ (each (length rs) (taskLine rs) ++ (pairLines Need n (m .cores) (m .need) ++ pairLines Slots n (m .cores) (m .held))))) in
     record {
       lines = subst P (sym (c .pre .sizes))
           (continued-on (c .put-head-head .ensures) (continued-on (c .put-cores-cores .ensures) (continued-on (c .put-tasks-named .ensures) (continued-on (c .put-pairs-needs .ensures) (c .put-pairs .ensures)))));

@@ -19,9 +19,9 @@ cast-task c = omega (arith, rows-few (c .args .tasks .now), c .len-count .ensure
 
 pub put-task-done-requires : need.put-task-done-requires
 put-task-done-requires c κs = record {
-      few = few-on 17 64 3000 (c .pre) (c .loop-task .inv) (omega (arith, tasks-few (c .loop-task .task) (c .args .tasks .now), rows-few (c .args .tasks .now), c .len-count .ensures, c .loop-task-test .taken)) (omega arith);
-      short = c .name .ensures .short;
-    }
+  few = few-on 17 64 3000 (c .pre) (c .loop-task .inv) (omega (arith, tasks-few (c .loop-task .task) (c .args .tasks .now), rows-few (c .args .tasks .now), c .len-count .ensures, c .loop-task-test .taken)) (omega arith);
+  short = c .name .ensures .short;
+}
 
 pub loop-task-again : need.loop-task-again
 loop-task-again c =

@@ -18,8 +18,8 @@ returns g c =
     let file : List ℕ = fileOf (c .args .letter) rs m in
     let counted = c .put-file-length .ensures .onward in
     let why : writeWhy (c .args .letter) rs m (length out) ≡ None =
-      allowed (c .args .letter) rs m (length out) (c .in-Some .field-0) (sym (c .sharing-of .ensures) ∙ c .in-Some .is)
-      (omega (arith, c .len .ensures, c .tasks .ensures, c .if-len-tasks .left)) (omega (arith, c .tasks-else-len-tasks .ensures, c .if-tasks-eq0 .left)) (omega (arith, counted, c .if-out-length .left)) in
+    allowed (c .args .letter) rs m (length out) (c .in-Some .field-0) (sym (c .sharing-of .ensures) ∙ c .in-Some .is)
+    (omega (arith, c .len .ensures, c .tasks .ensures, c .if-len-tasks .left)) (omega (arith, c .tasks-else-len-tasks .ensures, c .if-tasks-eq0 .left)) (omega (arith, counted, c .if-out-length .left)) in
     let far : 0 + length file ≡ length file = omega arith in
     record {
       told = ap Ok (c .put-file .ensures .onward ∙ far) ∙ ap (λ w. told w (length file)) (sym why);

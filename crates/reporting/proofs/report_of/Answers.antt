@@ -24,7 +24,7 @@ returns-in-Continue-text c =
     let P : Outcome → Type 0 = λ o. Reported o false (vec-items (c .in-Continue-text .text)) in
     let read = c .in-Ok-read .ensures tt in
     subst P (sym outcome) (order-shown (readOf old file) old (pairsOf (c .read .last .board)) (rows (c .read .last .tasks)) (c .in-Ok-read .letter) (vec-items (c .in-Continue-text .text))
-      (read .told) (read .left) (read .listed) (c .in-Continue-text .ensures tt))
+    (read .told) (read .left) (read .listed) (c .in-Continue-text .ensures tt))
 
 pub returns-in-Err-read : need.returns-in-Err-read
 returns-in-Err-read c =

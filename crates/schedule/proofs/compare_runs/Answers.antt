@@ -13,5 +13,5 @@ returns g c =
           let ranOne = played (g .A·Board .meaning) (g .R·Rule .order (c .args .rule)) _ _ _ _ _ _ (one .told) p in
           let ranTwo = played (g .B·Board .meaning) (g .R·Rule .order (c .args .rule)) _ _ _ _ _ _ (two .told) q in
           fairest-alike (g .R·Rule .order (c .args .rule)) (g .R·Rule .lawful (c .args .rule)) _ _ (one .went .good .sound) (two .went .good .sound)
-              (ends-fairest _ _ _ _ _ (ranOne .ran)) (ends-fairest _ _ _ _ _ (ranTwo .ran)) same;
+          (ends-fairest _ _ _ _ _ (ranOne .ran)) (ends-fairest _ _ _ _ _ (ranTwo .ran)) same;
     }

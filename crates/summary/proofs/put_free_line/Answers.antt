@@ -11,5 +11,5 @@ pub returns : need.returns
 returns c =
     joined (vec-items (c .args .out .now)) (vec-items (c .put-left .last .out)) (leftIn 12 (codes "free")) (rightIn 6 (decimal (c .args .free)) ++ 10 ∷ []) (c .in-Continue-put-left .ensures tt)
     (joined (vec-items (c .put-left .last .out)) (vec-items (c .put-right .last .out)) (rightIn 6 (decimal (c .args .free))) (10 ∷ [])
-      (c .in-Continue-put-right .ensures tt ∙ ap (λ t. vec-items (c .put-left .last .out) ++ rightIn 6 t) (c .as-bytes .ensures .value ∙ c .in-Continue-number .ensures tt .made))
-      (c .in-Continue-push .ensures tt .items))
+    (c .in-Continue-put-right .ensures tt ∙ ap (λ t. vec-items (c .put-left .last .out) ++ rightIn 6 t) (c .as-bytes .ensures .value ∙ c .in-Continue-number .ensures tt .made))
+    (c .in-Continue-push .ensures tt .items))

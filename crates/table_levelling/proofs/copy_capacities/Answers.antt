@@ -17,10 +17,11 @@ pub loop-core-again : need.loop-core-again
 loop-core-again g c =
     let b = g .B·Board in
     let from : Meaning = g .A·Board .meaning (c .args .from .now) in
-    let old : Meaning = b .meaning (c .args .to .now) in
-    (went-on (b .meaning) (b .ready) (b .kept) (b .keeping) (c .args .to .now) (c .loop-core .to) (c .set-capacity .last .self) (c .loop-core .inv .0) (c .set-capacity .ensures .good) (c .set-capacity .ensures .keeps),
-    capacities-more from old (b .meaning (c .loop-core .to)) (b .meaning (c .set-capacity .last .self)) (c .loop-core .core) (c .capacity .result)
-    (c .pre .from .sound) (c .pre .room) (omega (arith, c .cores-core-end .ensures, c .loop-core-test .taken)) (c .capacity .ensures) (c .loop-core .inv .1) (c .set-capacity .ensures .left))
+    let old : Meaning = b .meaning (c .args .to .now) in (
+      went-on (b .meaning) (b .ready) (b .kept) (b .keeping) (c .args .to .now) (c .loop-core .to) (c .set-capacity .last .self) (c .loop-core .inv .0) (c .set-capacity .ensures .good) (c .set-capacity .ensures .keeps),
+      capacities-more from old (b .meaning (c .loop-core .to)) (b .meaning (c .set-capacity .last .self)) (c .loop-core .core) (c .capacity .result)
+          (c .pre .from .sound) (c .pre .room) (omega (arith, c .cores-core-end .ensures, c .loop-core-test .taken)) (c .capacity .ensures) (c .loop-core .inv .1) (c .set-capacity .ensures .left),
+    )
 
 pub returns : need.returns
 returns g c =

@@ -35,10 +35,11 @@ loop-task-again g c =
     let b = g .B·Board in
     let from : Meaning = g .A·Board .meaning (c .args .from .now) in
     let old : Meaning = b .meaning (c .args .to .now) in
-    let m : Meaning = b .meaning (c .loop-task .to) in
-    (went-on (b .meaning) (b .ready) (b .kept) (b .keeping) (c .args .to .now) (c .loop-task .to) (c .copy-task-needs .last .to) (c .loop-task .inv .0) (c .copy-task-needs .ensures .went .good) (c .copy-task-needs .ensures .went .keeps),
-    ordered-on old m (b .meaning (c .copy-task-needs .last .to)) (tasksTo (from .need) (λ _ _. 0) (c .loop-task .task)) (tasksTo (from .need) (λ _ _. 0) (c .loop-task .task + 1))
-    (c .loop-task .inv .1) (c .copy-task-needs .ensures .copied))
+    let m : Meaning = b .meaning (c .loop-task .to) in (
+      went-on (b .meaning) (b .ready) (b .kept) (b .keeping) (c .args .to .now) (c .loop-task .to) (c .copy-task-needs .last .to) (c .loop-task .inv .0) (c .copy-task-needs .ensures .went .good) (c .copy-task-needs .ensures .went .keeps),
+      ordered-on old m (b .meaning (c .copy-task-needs .last .to)) (tasksTo (from .need) (λ _ _. 0) (c .loop-task .task)) (tasksTo (from .need) (λ _ _. 0) (c .loop-task .task + 1))
+          (c .loop-task .inv .1) (c .copy-task-needs .ensures .copied),
+    )
 
 pub returns : need.returns
 returns g c =

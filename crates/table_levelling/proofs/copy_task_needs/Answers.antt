@@ -17,10 +17,11 @@ pub loop-core-again : need.loop-core-again
 loop-core-again g c =
     let b = g .B·Board in
     let from : Meaning = g .A·Board .meaning (c .args .from .now) in
-    let old : Meaning = b .meaning (c .args .to .now) in
-    (went-on (b .meaning) (b .ready) (b .kept) (b .keeping) (c .args .to .now) (c .loop-core .to) (c .set-need .last .self) (c .loop-core .inv .0) (c .set-need .ensures .good) (c .set-need .ensures .keeps),
-    needs-more from old (b .meaning (c .loop-core .to)) (b .meaning (c .set-need .last .self)) (c .args .task) (c .loop-core .core) (c .need .result)
-    (c .pre .from .sound) (c .pre .room) (c .pre .task) (omega (arith, c .cores-core-end .ensures, c .loop-core-test .taken)) (c .need .ensures) (c .loop-core .inv .1) (c .set-need .ensures .left))
+    let old : Meaning = b .meaning (c .args .to .now) in (
+      went-on (b .meaning) (b .ready) (b .kept) (b .keeping) (c .args .to .now) (c .loop-core .to) (c .set-need .last .self) (c .loop-core .inv .0) (c .set-need .ensures .good) (c .set-need .ensures .keeps),
+      needs-more from old (b .meaning (c .loop-core .to)) (b .meaning (c .set-need .last .self)) (c .args .task) (c .loop-core .core) (c .need .result)
+          (c .pre .from .sound) (c .pre .room) (c .pre .task) (omega (arith, c .cores-core-end .ensures, c .loop-core-test .taken)) (c .need .ensures) (c .loop-core .inv .1) (c .set-need .ensures .left),
+    )
 
 pub returns : need.returns
 returns g c =

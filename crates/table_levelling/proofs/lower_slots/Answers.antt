@@ -29,9 +29,10 @@ loop-task-again g c =
     let b = g .B·Board in
     let from : Meaning = g .A·Board .meaning (c .args .from .now) in
     let old : Meaning = b .meaning (c .args .to .now) in
-    let m : Meaning = b .meaning (c .loop-task .to) in
-    (went-on (b .meaning) (b .ready) (b .kept) (b .keeping) (c .args .to .now) (c .loop-task .to) (c .lower-task .last .to) (c .loop-task .inv .0) (c .lower-task .ensures .went .good) (c .lower-task .ensures .went .keeps),
-    lower-tasks-more from old m (b .meaning (c .lower-task .last .to)) (c .loop-task .task) (c .pre .to .sound) (c .loop-task .inv .1) (c .lower-task .ensures .lowered))
+    let m : Meaning = b .meaning (c .loop-task .to) in (
+      went-on (b .meaning) (b .ready) (b .kept) (b .keeping) (c .args .to .now) (c .loop-task .to) (c .lower-task .last .to) (c .loop-task .inv .0) (c .lower-task .ensures .went .good) (c .lower-task .ensures .went .keeps),
+      lower-tasks-more from old m (b .meaning (c .lower-task .last .to)) (c .loop-task .task) (c .pre .to .sound) (c .loop-task .inv .1) (c .lower-task .ensures .lowered),
+    )
 
 pub returns : need.returns
 returns g c =

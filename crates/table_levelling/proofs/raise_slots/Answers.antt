@@ -35,9 +35,10 @@ loop-task-again g c =
     let b = g .B·Board in
     let from : Meaning = g .A·Board .meaning (c .args .from .now) in
     let old : Meaning = b .meaning (c .args .to .now) in
-    let m : Meaning = b .meaning (c .loop-task .to) in
-    (went-on (b .meaning) (b .ready) (b .kept) (b .keeping) (c .args .to .now) (c .loop-task .to) (c .raise-task .last .to) (c .loop-task .inv .0) (c .raise-task .ensures .went .good) (c .raise-task .ensures .went .keeps),
-    raise-tasks-more from old m (b .meaning (c .raise-task .last .to)) (c .loop-task .task) (c .pre .from .sound) (c .pre .to .sound) (c .pre .holds) (c .loop-task .inv .1) (c .raise-task .ensures .raised))
+    let m : Meaning = b .meaning (c .loop-task .to) in (
+      went-on (b .meaning) (b .ready) (b .kept) (b .keeping) (c .args .to .now) (c .loop-task .to) (c .raise-task .last .to) (c .loop-task .inv .0) (c .raise-task .ensures .went .good) (c .raise-task .ensures .went .keeps),
+      raise-tasks-more from old m (b .meaning (c .raise-task .last .to)) (c .loop-task .task) (c .pre .from .sound) (c .pre .to .sound) (c .pre .holds) (c .loop-task .inv .1) (c .raise-task .ensures .raised),
+    )
 
 pub returns : need.returns
 returns g c =

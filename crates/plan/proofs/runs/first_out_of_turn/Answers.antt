@@ -15,12 +15,13 @@ loop-place-again c =
     let calls = c .args .calls .now in
     let place = c .loop-place .place in
     let inv = c .loop-place .inv in
-    let here : InTurn calls place = ap (λ (z : Bool). inTurn z (callAt calls place)) (sym (inv .0)) ∙ (sym (c .in-turn .ensures) ∙ c .if-not-in-turn .left) in
-    (c .leaves-working-working .ensures ∙ (ap (λ (z : Bool). turned z (callAt calls place)) (inv .0) ∙ sym (folded-more turned true calls place (SetNeed 0 0 0) (c .loop-place-test .taken))),
-    λ k h. elim (cases-lt k place) [
-      | inl before ↦ inv .1 k before
-      | inr now ↦ let last : place ≡ k = omega arith in subst (InTurn calls) last here
-    ])
+    let here : InTurn calls place = ap (λ (z : Bool). inTurn z (callAt calls place)) (sym (inv .0)) ∙ (sym (c .in-turn .ensures) ∙ c .if-not-in-turn .left) in (
+      c .leaves-working-working .ensures ∙ (ap (λ (z : Bool). turned z (callAt calls place)) (inv .0) ∙ sym (folded-more turned true calls place (SetNeed 0 0 0) (c .loop-place-test .taken))),
+      λ k h. elim (cases-lt k place) [
+        | inl before ↦ inv .1 k before
+        | inr now ↦ let last : place ≡ k = omega arith in subst (InTurn calls) last here
+      ],
+    )
 
 pub returns-then-not-in-turn : need.returns-then-not-in-turn
 returns-then-not-in-turn c =

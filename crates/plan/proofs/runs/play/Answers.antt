@@ -22,10 +22,15 @@ loop-place-holds g c =
     let board = now (c .make .result .board) in
     let made = c .make .ensures .planned in
     let P : g .R .Denot → Type 0 = λ z. Standing (b .meaning) (b .ready) (g .R·Rule .order z) board in
-    let standing = subst P (sym (c .make .ensures .rule)) (made .standing) in
-    (standing, b .keeping .same board, refl, refl, refl,
-    ran-none (g .R·Rule .order (c .make .result .rule)) (b .meaning board) (c .args .calls .now) (c .args .notes .now) (standing .good .sound) (standing .fairest),
-    record { long = refl; rest = λ k h. refl })
+    let standing = subst P (sym (c .make .ensures .rule)) (made .standing) in (
+      standing,
+      b .keeping .same board,
+      refl,
+      refl,
+      refl,
+      ran-none (g .R·Rule .order (c .make .result .rule)) (b .meaning board) (c .args .calls .now) (c .args .notes .now) (standing .good .sound) (standing .fairest),
+      record { long = refl; rest = λ k h. refl },
+    )
 
 pub loop-place-again : need.loop-place-again
 loop-place-again g c =
@@ -38,15 +43,16 @@ loop-place-again g c =
     let board = now (lentOf (c .step-next .result .0)) in
     let P : g .R .Denot → Type 0 = λ z. Standing (b .meaning) (b .ready) (g .R·Rule .order z) board in
     let Q : g .R .Denot → Type 0 = λ z. FairestOn (g .R·Rule .order z) (b .meaning board) in
-    let room : place < length (c .loop-place .notes) = omega (arith, c .loop-place-test .taken, c .loop-place .kept .notes, c .pre .room) in
-    (subst P (sym (step .rule)) (step .replanned .standing),
-    b .keeping .onward _ _ _ (inv .1) (step .replanned .keeps),
-    step .rule ∙ inv .2,
-    step .turned ∙ (ap (λ (z : Bool). turned z (callAt calls place)) (inv .3) ∙ sym (folded-more turned true calls place (SetNeed 0 0 0) (c .loop-place-test .taken))),
-    step .lent ∙ inv .4,
-    ran-more (g .R·Rule .order (c .make .result .rule)) (b .meaning first) calls place (c .loop-place .notes) (b .meaning (now (lentOf (c .loop-place .state)))) (b .meaning board) _
-        (c .loop-place-test .taken) room (inv .5) (step .replanned .told) (step .replanned .order) (step .replanned .standing .good .sound) (subst Q (inv .2) (step .replanned .standing .fairest)) (c .totals-totals .ensures),
-    notes-more place (c .args .notes .now) (c .loop-place .notes) _ (inv .6))
+    let room : place < length (c .loop-place .notes) = omega (arith, c .loop-place-test .taken, c .loop-place .kept .notes, c .pre .room) in (
+      subst P (sym (step .rule)) (step .replanned .standing),
+      b .keeping .onward _ _ _ (inv .1) (step .replanned .keeps),
+      step .rule ∙ inv .2,
+      step .turned ∙ (ap (λ (z : Bool). turned z (callAt calls place)) (inv .3) ∙ sym (folded-more turned true calls place (SetNeed 0 0 0) (c .loop-place-test .taken))),
+      step .lent ∙ inv .4,
+      ran-more (g .R·Rule .order (c .make .result .rule)) (b .meaning first) calls place (c .loop-place .notes) (b .meaning (now (lentOf (c .loop-place .state)))) (b .meaning board) _
+          (c .loop-place-test .taken) room (inv .5) (step .replanned .told) (step .replanned .order) (step .replanned .standing .good .sound) (subst Q (inv .2) (step .replanned .standing .fairest)) (c .totals-totals .ensures),
+      notes-more place (c .args .notes .now) (c .loop-place .notes) _ (inv .6),
+    )
 
 moved : {X : Type 0} (P : X → Type 0) (v w : X) → v ≡ w → P w → P v
 moved P v w e h = subst P (sym e) h

@@ -1,4 +1,4 @@
-// A plan is working or released: a working one takes changes, a released one can be written.
+// A plan is working or released: a working one takes changes, a released one stays as it is until it is reopened.
 ghost use mathlib.Core.Path.{_≡_};
 ghost use denote.Ref.{name};
 ghost use Rattle.board.specs.Meaning.{totalOf, freeSlots};

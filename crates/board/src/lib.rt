@@ -1,4 +1,6 @@
 // The seam between planning and memory: what every board answers, which changes it takes, and which it refuses.
+#![tactic(auto)]
+
 ghost use Rattle.std.specs.Prelude.{◌≡◌};
 ghost use Rattle.board.specs.Meaning.{Meaning, given_at, free_at, free_slots, total_of, whole_need_of, pair_count, sizes_allowed};
 ghost use Rattle.board.specs.Outcomes.{answered, set_need, set_held, set_capacity};

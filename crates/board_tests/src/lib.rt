@@ -1,4 +1,6 @@
 // Boards of three builds put to the same tests; one of them, with a row for each core, is plain and stands only here.
+#![tactic(auto)]
+
 ghost use Rattle.std.specs.Prelude.{◌≡◌, ◌*◌, min, length, drop};
 ghost use Rattle.board.specs.Boards.{Good, Went};
 ghost use Rattle.table_board.specs.Cells.{numbers};

@@ -1,4 +1,6 @@
 // The calls for C. Each takes the bytes of an order file; boards lie on the stack, and whatever a caller passes is tested.
+#![tactic(auto)]
+
 ghost use Rattle.std.specs.Prelude.{◌≡◌, length};
 ghost use Rattle.order_writer.specs.Writing.{told, left};
 ghost use Rattle.reporting.specs.Reports.{outcome_of};

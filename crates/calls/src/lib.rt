@@ -1,4 +1,6 @@
 // The calls of a run, and which of them a plan takes when.
+#![tactic(auto)]
+
 ghost use Rattle.std.specs.Prelude.{◌≡◌, MatchOption};
 ghost use Rattle.calls.specs.Turns.{in_turn, turned, Legal, FirstOutOfTurn};
 

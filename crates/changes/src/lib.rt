@@ -1,4 +1,6 @@
 // A change of a need or a capacity under a plan: slots that no longer fit are taken away, the number changes, and the plan is levelled anew.
+#![tactic(auto)]
+
 ghost use Rattle.std.specs.Prelude.{◌≡◌, ℕ, ◌+◌, ◌<◌, ◌≤◌, min, Ok};
 ghost use Rattle.board.specs.Meaning.{Meaning, SameOrder, with_held, with_need, with_capacity, given_at};
 ghost use Rattle.board.specs.Boards.{Good, Went};

@@ -1,4 +1,6 @@
 // Follows a script of calls on the plan of an order file: prints what each line is told and where the plan then stands.
+#![tactic(auto)]
+
 ghost use Rattle.board.specs.Boards.{Good};
 ghost use Rattle.changes.specs.Standing.{Standing};
 ghost use Rattle.plan.specs.States.{lent_of, rule_of};

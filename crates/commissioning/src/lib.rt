@@ -1,4 +1,6 @@
 // A plan followed line by line through a script: what each line is told, and where the plan then stands.
+#![tactic(auto)]
+
 ghost use Rattle.std.specs.Prelude.{◌≡◌};
 ghost use Rattle.changes.specs.Standing.{Standing};
 ghost use Rattle.plan.specs.States.{lent_of, rule_of, is_working};

@@ -1,5 +1,7 @@
 // Reads an order file from standard input onto a pair board and writes it again, carries it from there onto a table board,
 // and prints what came of both.
+#![tactic(auto)]
+
 ghost use Rattle.board.specs.Boards.{Good};
 
 use board::Board;

@@ -1,4 +1,6 @@
 // What a rule of shares sees of a task, and what it answers; and the theorems on fairest plans, each named by a function's contract.
+#![tactic(auto)]
+
 ghost use Rattle.fairness.specs.Theorems.{SettledFairest, FairestSettled, FreeSlotFairer, ExchangeFairer, FairestExactly, FairestSameLevels, FairestWithinOne, LevellingEnds};
 ghost use Rattle.fairness.specs.Decision.{FairestDecided};
 ghost use Rattle.fairness.specs.Readings.{ReadingsAgree};

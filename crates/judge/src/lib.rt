@@ -1,4 +1,6 @@
 // The judge: whether a board's plan is fairest, and if not, a slot that would make it fairer.
+#![tactic(auto)]
+
 ghost use Rattle.board.specs.Boards.{Good};
 ghost use Rattle.judge.specs.Verdicts.{Judged};
 

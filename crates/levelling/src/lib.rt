@@ -1,4 +1,6 @@
 // Levelling: free slots are given out, then single slots pass along routes, until the plan is fairest.
+#![tactic(auto)]
+
 ghost use Rattle.board.specs.Meaning.{SameOrder};
 ghost use Rattle.board.specs.Boards.{Good, Went};
 ghost use Rattle.levelling.specs.Levelled.{FirstFree, Improved, FewSteps, FairestOn};

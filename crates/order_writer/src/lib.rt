@@ -1,4 +1,6 @@
 // Writes an order file: the one encoding of what a board and a task table hold.
+#![tactic(auto)]
+
 ghost use Rattle.std.specs.Prelude.{◌≡◌, ◌^◌, ◌<◌, ◌≤◌, [], ◌∷◌, length};
 ghost use Rattle.board.specs.Boards.{Good};
 ghost use Rattle.records.specs.declared.kind.Kind.TheVariants.{Core, Task, End};

@@ -1,4 +1,6 @@
 // Reads an order file: its sizes alone, or the whole of it into a board and a task table.
+#![tactic(auto)]
+
 ghost use Rattle.std.specs.Prelude.{◌≡◌};
 ghost use Rattle.board.specs.Boards.{Good};
 ghost use Rattle.tasks.specs.Table.{rows};

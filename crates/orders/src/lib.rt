@@ -1,4 +1,6 @@
 // What an order file is: the encoding of an order, and what reading any bytes comes to; and the laws that join the two.
+#![tactic(auto)]
+
 ghost use Rattle.orders.specs.Laws.{ReadingLawful, EncodingsRead};
 
 // A file is accepted just where it is the encoding of an order that the board can hold.

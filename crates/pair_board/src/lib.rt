@@ -1,4 +1,6 @@
 // A board that lies in a lent list of entries, one for each pair of a task and a core with a need; the capacities stand in the board itself.
+#![tactic(auto)]
+
 ghost use Rattle.std.specs.Prelude.{◌≡◌, ◌<◌, ◌≤◌, length, MatchOption};
 ghost use Rattle.board.specs.Outcomes.{checked};
 ghost use Rattle.pair_board.specs.Entries.{entry_at, is_for, Absent, At};

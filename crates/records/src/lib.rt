@@ -1,4 +1,6 @@
 // The records of an order file, found one after another in the file's own bytes.
+#![tactic(auto)]
+
 ghost use Rattle.std.specs.Prelude.{◌≡◌, ◌+◌, ◌<◌, length};
 ghost use Rattle.records.specs.Wire.{word_at, length_at, kind_of};
 ghost use Rattle.records.specs.Cuts.{opened, open_of, cut_of, cut_at, place_after, finish_at};

@@ -1,4 +1,6 @@
 // Reads an order file from standard input, and prints its report.
+#![tactic(auto)]
+
 use reporting::report_of;
 use standard_input::fill;
 use std::io;

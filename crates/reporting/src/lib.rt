@@ -1,4 +1,6 @@
 // The report of an order file: the file is read onto a pair board, the plan is made, and its text is written.
+#![tactic(auto)]
+
 ghost use Rattle.std.specs.Prelude.{◌≡◌, length, IfOk, Err};
 ghost use Rattle.board.specs.Boards.{Good};
 ghost use Rattle.tasks.specs.Table.{rows};

@@ -1,4 +1,6 @@
 // Orders that are read and written again, and written and read again.
+#![tactic(auto)]
+
 ghost use Rattle.board.specs.Boards.{Good, Went};
 ghost use Rattle.tasks.specs.Table.{rows};
 ghost use Rattle.std.specs.Prelude.{length};

@@ -1,4 +1,6 @@
 // Routes from a gaining task to a losing one, and the exchange of one slot along them.
+#![tactic(auto)]
+
 ghost use Rattle.board.specs.Boards.{Good, Went};
 ghost use Rattle.routes.specs.Routes.{RouteTo, PassedAlong, MayShift, Shifted};
 

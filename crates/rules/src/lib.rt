@@ -1,4 +1,6 @@
 // Rules of shares: how two tasks' shares compare.
+#![tactic(auto)]
+
 ghost use Rattle.std.specs.Prelude.{◌≡◌, ℕ, ◌<◌, ◌≤◌};
 ghost use Rattle.fairness.specs.Laws.{Comparison, Lawful};
 ghost use Rattle.fairness.specs.Even.{even, standing, counted};

@@ -1,4 +1,6 @@
 // Whole runs: from a board to the judge's verdict, and what two runs under one rule have in common.
+#![tactic(auto)]
+
 ghost use Rattle.std.specs.Prelude.{◌≡◌, Ok};
 ghost use Rattle.fairness.specs.Even.{even};
 ghost use Rattle.board.specs.Boards.{Good, Went};

@@ -1,4 +1,6 @@
 // Boards filled by hand, put to levelling and to the judge.
+#![tactic(auto)]
+
 ghost use Rattle.board.specs.Boards.{Good};
 
 #[cfg(test)]

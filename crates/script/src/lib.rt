@@ -1,4 +1,6 @@
 // The lines of a script of calls on a plan, and what each asks for.
+#![tactic(auto)]
+
 ghost use Rattle.std.specs.Prelude.{◌≡◌, Bool, length, Some};
 ghost use Rattle.std.specs.Str.{bytes_eq};
 ghost use Rattle.script.specs.Lines.{request_of, need_asked, capacity_asked, word_of, rest_of};

@@ -1,4 +1,6 @@
 // The search for a route that makes the plan fairer: breadth first over tasks, each core opened once.
+#![tactic(auto)]
+
 ghost use Rattle.std.specs.Prelude.{◌≡◌, ◌+◌, ◌<◌, ◌≤◌, length};
 ghost use Rattle.board.specs.Meaning.{most_tasks, most_cores};
 ghost use Rattle.board.specs.Boards.{Good};

@@ -1,4 +1,6 @@
 // Which records may follow one another in an order file, and which numbers they may have.
+#![tactic(auto)]
+
 ghost use Rattle.std.specs.Prelude.{◌≡◌};
 ghost use Rattle.records.specs.Cuts.{plain};
 ghost use Rattle.sections.specs.Letters.{head_test};

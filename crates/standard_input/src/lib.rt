@@ -1,4 +1,6 @@
 // Standard input, up to a bound: nothing says that an input ends.
+#![tactic(auto)]
+
 ghost use Rattle.std.specs.Prelude.{◌≤◌, length, IfOk};
 
 use std::io;

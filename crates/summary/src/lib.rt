@@ -1,4 +1,6 @@
 // The report's text, byte by byte: a line for each task, the line of free slots, the line of a refusal.
+#![tactic(auto)]
+
 ghost use Rattle.std.specs.Prelude.{◌≡◌, ◌≤◌, ◌++◌, replicate, IfOk, OnOk};
 ghost use Rattle.board.specs.Refusals.{number_of, layer_of};
 ghost use Rattle.board.specs.Meaning.{most_tasks};

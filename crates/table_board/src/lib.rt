@@ -1,4 +1,6 @@
 // A board that lies in a lent slice of 16-bit numbers: the needs, then the slots held, both task by task, then the capacities.
+#![tactic(auto)]
+
 ghost use Rattle.std.specs.Prelude.{◌≡◌, ◌≤◌, length};
 ghost use Rattle.board.specs.Outcomes.{checked};
 ghost use Rattle.table_board.specs.Cells.{Wiped, table_fits};

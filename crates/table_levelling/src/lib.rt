@@ -1,4 +1,6 @@
 // Levels a board of any build on a table of its own.
+#![tactic(auto)]
+
 ghost use Rattle.std.specs.Prelude.{◌≡◌, ℕ, ◌+◌, ◌<◌};
 ghost use Rattle.board.specs.Meaning.{Meaning, planned};
 ghost use Rattle.board.specs.Boards.{Good, Went};

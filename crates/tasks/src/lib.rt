@@ -1,4 +1,6 @@
 // The table of an order's tasks, which takes no bad or repeated name and no weight outside its bounds.
+#![tactic(auto)]
+
 ghost use Rattle.std.specs.Prelude.{◌≡◌, ◌<◌, ◌≤◌, [], length, OnErr, slice_set};
 ghost use Rattle.std.specs.Str.{bytes_eq};
 ghost use Rattle.tasks.specs.Rows.{name_of, row_of, row, good_name, printable_name, taken};

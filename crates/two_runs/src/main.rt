@@ -1,5 +1,7 @@
 // Two runs under the even rule, on boards of different builds and with different histories that end with the same numbers:
 // prints what each call was told, the totals after it, and the judge's verdict on both ends.
+#![tactic(auto)]
+
 use board::fault::Fault;
 use judge::Verdict;
 use pair_board::PairBoard;

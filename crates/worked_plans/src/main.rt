@@ -1,5 +1,7 @@
 // Plans that can be worked out on paper, on boards of both builds: what the judge says of slots given by hand,
 // and the plan that is made.
+#![tactic(auto)]
+
 ghost use Rattle.board.specs.Boards.{Good};
 
 use board::Board;

@@ -11,12 +11,12 @@ returns-in-Some g c =
       holds = free (g.R.Rule.order c.args.rule) (g.R.Rule.lawful c.args.rule) m c.requires.sound c.args.route.now c.args.route.now c.in-Some.field-0 c.in-Some.ensures refl;
     }
 
-pub returns-in-default-find-route : goal.returns-in-default-find-route
-returns-in-default-find-route g c =
+pub returns-in_default-find-route : goal.returns-in_default-find-route
+returns-in_default-find-route g c =
     let m : Meaning = g.B.Board.meaning c.args.board.now in
     record {
       room = omega (arith, c.if-route-lt-MOST-CORES.false);
-      holds = passed (g.R.Rule.order c.args.rule) (g.R.Rule.lawful c.args.rule) m c.requires.sound c.args.route.now c.find-route.new.steps c.in-default.ensures c.in-default-find-route.ensures;
+      holds = passed (g.R.Rule.order c.args.rule) (g.R.Rule.lawful c.args.rule) m c.requires.sound c.args.route.now c.find-route.new.steps c.in_default.ensures c.in_default-find-route.ensures;
     }
 
 pub returns : goal.returns
@@ -25,5 +25,5 @@ returns g c =
     record {
       room = omega (arith, c.if-route-lt-MOST-CORES.false);
       holds = shown (g.R.Rule.order c.args.rule) (g.R.Rule.lawful c.args.rule) m c.requires.sound c.args.route.now c.find-route.new.steps c.in-Some-find-route.field-0 c.in-Some-find-route.ensures
-          c.in-default.ensures;
+          c.in_default.ensures;
     }

@@ -14,12 +14,12 @@ loop-round-preserved g c =
           (order-on (b.meaning c.loop-round.board) one (b.meaning c.pass-more.new.board) c.in-Some.ensures.improved.same_order c.pass-more.ensures.order),
     )
 
-pub returns-in-default : goal.returns-in-default
-returns-in-default g c =
+pub returns-in_default : goal.returns-in_default
+returns-in_default g c =
     let b = g.B.Board in
     let m : Meaning = b.meaning c.loop-round.board in
     let compare = g.R.Rule.order c.args.rule in
-    let end = c.in-default.ensures in
+    let end = c.in_default.ensures in
     let P : Meaning → Type 0 = SameOrder (b.meaning c.args.board.now) in
     let Q : Meaning → Type 0 = FairestOn compare in
     record {
@@ -47,7 +47,7 @@ returns g c =
     let filled : Meaning = b.meaning c.give-out.new.board in
     let m : Meaning = b.meaning c.loop-found.board in
     let compare = g.R.Rule.order c.args.rule in
-    let end = c.in-default-improve.ensures in
+    let end = c.in_default-improve.ensures in
     let P : Meaning → Type 0 = SameOrder (b.meaning c.args.board.now) in
     let Q : Meaning → Type 0 = FairestOn compare in
     record {

@@ -11,8 +11,8 @@ use Rattle.order_writer.proofs.put_tasks.Goals as goal
 pub loop-task-init : goal.loop-task-init
 loop-task-init c = continued-none c.args.out.now c.args.from
 
-pub overflow-cast-task : goal.overflow-cast-task
-overflow-cast-task c = omega (arith, rows_few c.args.tasks.now, c.len-count.ensures, c.loop-task-test.true)
+pub overflow_cast-task : goal.overflow_cast-task
+overflow_cast-task c = omega (arith, rows_few c.args.tasks.now, c.len-count.ensures, c.loop-task-test.true)
 
 pub put-task-done-requires : goal.put-task-done-requires
 put-task-done-requires c = record {

@@ -12,7 +12,7 @@ pub loop-records-init : goal.loop-records-init
 loop-records-init g c =
     let b = g.B.Board in (
       record { frame = refl; good = c.requires; keeps = b.keeping.same c.args.board.now },
-      begin (b.meaning c.args.board.now) (rows c.args.tasks.now) c.args.file.now (walk_of c.in-ok-records.records) c.new-reader.result c.in-ok-records.ensures
+      begin (b.meaning c.args.board.now) (rows c.args.tasks.now) c.args.file.now (walk_of c.in_ok-records.records) c.new-reader.result c.in_ok-records.ensures
           (c.new-reader.ensures ∙ (λ i. start (c.tasks.ensures i) (c.cores.ensures i))),
     )
 
@@ -23,75 +23,75 @@ loop-records-preserved g c =
     let whole = run_from (b.meaning c.args.board.now) (rows c.args.tasks.now) c.args.file.now in
     let s = reading at.reader at.seen (b.meaning at.board) (rows at.tasks) in
     let t = reading c.take.new.reader (at.seen + 1) (b.meaning c.take.new.board) (rows c.take.new.tasks) in
-    let cut = plain c.in-ok-found.found in
-    let walked = c.in-ok-found.ensures in
+    let cut = plain c.in_ok-found.found in
+    let walked = c.in_ok-found.ensures in
     let taken = c.take.ensures in
     let next = more whole s at.records.file.now at.records.at cut c.take.new.reader (b.meaning c.take.new.board) (rows c.take.new.tasks) at.invariant.1
-    (sym c.loop-records-test.ensures) (sym walked.answer) (sym c.in-ok-take.ensures.told) in (
+    (sym c.loop-records-test.ensures) (sym walked.answer) (sym c.in_ok-take.ensures.told) in (
       onward b.keeping c.args.board.now at.board c.take.new.board at.invariant.0 (record { frame = taken.frame; good = taken.good; keeps = taken.keeps }),
       subst (λ f. Sofar whole t f c.next.new.self.at) (sym walked.file) (subst (λ n. Sofar whole t at.records.file.now n) (sym walked.at) next),
     )
 
-pub returns-in-err-records : goal.returns-in-err-records
-returns-in-err-records g c =
+pub returns-in_err-records : goal.returns-in_err-records
+returns-in_err-records g c =
     let b = g.B.Board in
     let m = b.meaning c.args.board.now in
     let rs = rows c.args.tasks.now in
     let left = err_from_is_err_and c.from-residual.result c.from-residual.ensures.1 in
-    let fault = c.in-err-records.field-0.0 in
+    let fault = c.in_err-records.field-0.0 in
     record {
-      told = refused-told c.from-residual.result m rs (run_from m rs c.args.file.now) fault (left.1 ∙ ap (λ x. Err x) left.2) (unopened m rs c.args.file.now fault c.in-err-records.ensures);
+      told = refused-told c.from-residual.result m rs (run_from m rs c.args.file.now) fault (left.1 ∙ ap (λ x. Err x) left.2) (unopened m rs c.args.file.now fault c.in_err-records.ensures);
       frame = refl;
       good = c.requires;
       keeps = b.keeping.same c.args.board.now;
     }
 
-pub returns-in-err-found : goal.returns-in-err-found
-returns-in-err-found g c =
+pub returns-in_err-found : goal.returns-in_err-found
+returns-in_err-found g c =
     let b = g.B.Board in
     let at = c.loop-records in
     let whole = run_from (b.meaning c.args.board.now) (rows c.args.tasks.now) c.args.file.now in
     let s = reading at.reader at.seen (b.meaning at.board) (rows at.tasks) in
-    let left = err_from_is_err_and c.from-residual-in-err-found.result c.from-residual-in-err-found.ensures.1 in
-    let fault = c.in-err-found.field-0.0 in
+    let left = err_from_is_err_and c.from-residual-in_err-found.result c.from-residual-in_err-found.ensures.1 in
+    let fault = c.in_err-found.field-0.0 in
     record {
-      told = refused-told c.from-residual-in-err-found.result (b.meaning at.board) (rows at.tasks) whole fault (left.1 ∙ ap (λ x. Err x) left.2)
-          (ends-cut whole s at.records.file.now at.records.at fault at.invariant.1 (sym c.loop-records-test.ensures) c.in-err-found.ensures.answer);
+      told = refused-told c.from-residual-in_err-found.result (b.meaning at.board) (rows at.tasks) whole fault (left.1 ∙ ap (λ x. Err x) left.2)
+          (ends-cut whole s at.records.file.now at.records.at fault at.invariant.1 (sym c.loop-records-test.ensures) c.in_err-found.ensures.answer);
       frame = at.invariant.0.frame;
       good = at.invariant.0.good;
       keeps = at.invariant.0.keeps;
     }
 
-pub returns-in-err-take : goal.returns-in-err-take
-returns-in-err-take g c =
+pub returns-in_err-take : goal.returns-in_err-take
+returns-in_err-take g c =
     let b = g.B.Board in
     let at = c.loop-records in
     let whole = run_from (b.meaning c.args.board.now) (rows c.args.tasks.now) c.args.file.now in
     let s = reading at.reader at.seen (b.meaning at.board) (rows at.tasks) in
-    let cut = plain c.in-ok-found.found in
-    let left = err_from_is_err_and c.from-residual-in-err-take.result c.from-residual-in-err-take.ensures.1 in
-    let fault = c.in-err-take.field-0.0 in
+    let cut = plain c.in_ok-found.found in
+    let left = err_from_is_err_and c.from-residual-in_err-take.result c.from-residual-in_err-take.ensures.1 in
+    let fault = c.in_err-take.field-0.0 in
     let taken = c.take.ensures in
     let on = onward b.keeping c.args.board.now at.board c.take.new.board at.invariant.0 (record { frame = taken.frame; good = taken.good; keeps = taken.keeps }) in
     record {
-      told = refused-told c.from-residual-in-err-take.result (b.meaning c.take.new.board) (rows c.take.new.tasks) whole fault (left.1 ∙ ap (λ x. Err x) left.2)
-          (ends-refused whole s at.records.file.now at.records.at cut fault at.invariant.1 (sym c.loop-records-test.ensures) c.in-ok-found.ensures.answer c.in-err-take.ensures.told);
+      told = refused-told c.from-residual-in_err-take.result (b.meaning c.take.new.board) (rows c.take.new.tasks) whole fault (left.1 ∙ ap (λ x. Err x) left.2)
+          (ends-refused whole s at.records.file.now at.records.at cut fault at.invariant.1 (sym c.loop-records-test.ensures) c.in_ok-found.ensures.answer c.in_err-take.ensures.told);
       frame = on.frame;
       good = on.good;
       keeps = on.keeps;
     }
 
-pub returns-in-err-finish : goal.returns-in-err-finish
-returns-in-err-finish g c =
+pub returns-in_err-finish : goal.returns-in_err-finish
+returns-in_err-finish g c =
     let b = g.B.Board in
     let at = c.loop-records in
     let whole = run_from (b.meaning c.args.board.now) (rows c.args.tasks.now) c.args.file.now in
     let s = reading at.reader at.seen (b.meaning at.board) (rows at.tasks) in
-    let left = err_from_is_err_and c.from-residual-in-err-finish.result c.from-residual-in-err-finish.ensures.1 in
-    let fault = c.in-err-finish.field-0.0 in
+    let left = err_from_is_err_and c.from-residual-in_err-finish.result c.from-residual-in_err-finish.ensures.1 in
+    let fault = c.in_err-finish.field-0.0 in
     record {
-      told = refused-told c.from-residual-in-err-finish.result (b.meaning at.board) (rows at.tasks) whole fault (left.1 ∙ ap (λ x. Err x) left.2)
-          (ends-followed whole s at.records.file.now at.records.at fault at.invariant.1 (sym c.loop-records-test.ensures) c.in-err-finish.ensures);
+      told = refused-told c.from-residual-in_err-finish.result (b.meaning at.board) (rows at.tasks) whole fault (left.1 ∙ ap (λ x. Err x) left.2)
+          (ends-followed whole s at.records.file.now at.records.at fault at.invariant.1 (sym c.loop-records-test.ensures) c.in_err-finish.ensures);
       frame = at.invariant.0.frame;
       good = at.invariant.0.good;
       keeps = at.invariant.0.keeps;
@@ -104,7 +104,7 @@ returns g c =
     let whole = run_from (b.meaning c.args.board.now) (rows c.args.tasks.now) c.args.file.now in
     let s = reading at.reader at.seen (b.meaning at.board) (rows at.tasks) in
     record {
-      told = sym (ap order_of (ends-well whole s at.records.file.now at.records.at at.invariant.1 (sym c.loop-records-test.ensures) c.in-ok-finish.ensures));
+      told = sym (ap order_of (ends-well whole s at.records.file.now at.records.at at.invariant.1 (sym c.loop-records-test.ensures) c.in_ok-finish.ensures));
       frame = at.invariant.0.frame;
       good = at.invariant.0.good;
       keeps = at.invariant.0.keeps;

@@ -10,16 +10,16 @@ use Rattle.reporting.specs.Reports.{Reported, outcome_of}
 use Rattle.reporting.proofs.Shows.{order-shown, outcome-is, outcome-fault}
 use Rattle.reporting.proofs.report_of.Goals as goal
 
-pub returns-in-ok-text : goal.returns-in-ok-text
-returns-in-ok-text c =
+pub returns-in_ok-text : goal.returns-in_ok-text
+returns-in_ok-text c =
     let file = c.args.file.now in
     let old : Meaning = pairs_of c.make-board.result in
     let sized : Ok (c.in-Ok.field-0-0, c.in-Ok.n, c.in-Ok.m) ≡ sizes_of file = c.in-Ok.ensures in
     let outcome : outcome_of file ≡ read_of old file = outcome-is file (c.in-Ok.field-0-0, c.in-Ok.n, c.in-Ok.m) old _ sized (length-replicate {A = Entry} 1024 (record { task = 0; core = 0; goal = 0; held = 0 })) c.make-board.ensures.means in
-    let P : Outcome → Type 0 = λ o. Reported o false (vec_items c.in-ok-text.text) in
+    let P : Outcome → Type 0 = λ o. Reported o false (vec_items c.in_ok-text.text) in
     let read = c.in-Ok-read.ensures in
-    subst P (sym outcome) (order-shown (read_of old file) old (pairs_of c.read.new.board) (rows c.read.new.tasks) c.in-Ok-read.letter (vec_items c.in-ok-text.text)
-    read.told read.left read.listed c.in-ok-text.ensures)
+    subst P (sym outcome) (order-shown (read_of old file) old (pairs_of c.read.new.board) (rows c.read.new.tasks) c.in-Ok-read.letter (vec_items c.in_ok-text.text)
+    read.told read.left read.listed c.in_ok-text.ensures)
 
 pub returns-in-Err-read : goal.returns-in-Err-read
 returns-in-Err-read c =

@@ -3,17 +3,17 @@ use Rattle.std.proofs.lemmas.Bool.{eqb-false}
 use Rattle.script.proofs.Counting.{none_stays, read_whole, read_more, read_all}
 use Rattle.script.proofs.number_of.Goals as goal
 
-pub returns-in-err-number : goal.returns-in-err-number
-returns-in-err-number c =
+pub returns-in_err-number : goal.returns-in_err-number
+returns-in_err-number c =
     let word = c.args.word.now in
     let index = c.loop-digit.digit-index in
     c.from-residual.ensures ∙ (sym (none_stays (drop (index + 1) word))
-    ∙ (read_more word index c.loop-digit.number None c.loop-digit-test.true (sym c.in-err-number.was ∙ c.with-digit.ensures) c.loop-digit.invariant
+    ∙ (read_more word index c.loop-digit.number None c.loop-digit-test.true (sym c.in_err-number.was ∙ c.with-digit.ensures) c.loop-digit.invariant
     ∙ sym (read_whole word (eqb-false _ _ (sym c.if-is-empty.ensures)))))
 
 pub loop-digit-preserved : goal.loop-digit-preserved
-loop-digit-preserved c = read_more c.args.word.now c.loop-digit.digit-index c.loop-digit.number (Some c.in-ok-number.number) c.loop-digit-test.true
-    (sym c.in-ok-number.was ∙ c.with-digit.ensures) c.loop-digit.invariant
+loop-digit-preserved c = read_more c.args.word.now c.loop-digit.digit-index c.loop-digit.number (Some c.in_ok-number.number) c.loop-digit-test.true
+    (sym c.in_ok-number.was ∙ c.with-digit.ensures) c.loop-digit.invariant
 
 pub returns : goal.returns
 returns c =

@@ -18,4 +18,4 @@ pub returns : goal.returns
 returns g c =
     let m : Meaning = g.B.Board.meaning c.args.board.now in
     let P : ℕ → Type 0 = λ to. NothingToGain (g.R.Rule.order c.args.rule.now) m c.if-start-tasks.first to c.args.steps.now c.route-among.new.steps in
-    searched-round _ _ _ _ _ _ _ c.route-among-2.result (subst P c.tasks-tasks.ensures c.in-default.ensures.searched) c.route-among-2.ensures.searched
+    searched-round _ _ _ _ _ _ _ c.route-among-2.result (subst P c.tasks-tasks.ensures c.in_default.ensures.searched) c.route-among-2.ensures.searched

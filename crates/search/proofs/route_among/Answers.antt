@@ -12,7 +12,7 @@ pub returns-in-Some : goal.returns-in-Some
 returns-in-Some g c = record { searched = route-on _ _ _ _ _ _ _ _ c.loop-gainer.invariant.0 c.in-Some.ensures.searched; flags = c.in-Some.ensures.flags }
 
 pub loop-gainer-preserved : goal.loop-gainer-preserved
-loop-gainer-preserved g c = (nothing-on _ _ _ _ _ _ _ _ c.loop-gainer.invariant.0 c.in-default.ensures.searched, c.in-default.ensures.flags)
+loop-gainer-preserved g c = (nothing-on _ _ _ _ _ _ _ _ c.loop-gainer.invariant.0 c.in_default.ensures.searched, c.in_default.ensures.flags)
 
 pub returns : goal.returns
 returns g c = record { searched = nothing-less _ _ _ _ _ _ _ c.loop-gainer-test.false c.loop-gainer.invariant.0; flags = c.loop-gainer.invariant.1 }

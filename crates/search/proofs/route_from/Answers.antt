@@ -2,11 +2,11 @@ use Rattle.board.specs.Meaning.{Meaning}
 use Rattle.search.proofs.Founds.{nothing-one, shown-route}
 use Rattle.search.proofs.route_from.Goals as goal
 
-pub returns-in-default : goal.returns-in-default
-returns-in-default g c =
+pub returns-in_default : goal.returns-in_default
+returns-in_default g c =
     let m : Meaning = g.B.Board.meaning c.args.board.now in
     record {
-      searched = nothing-one (g.R.Rule.order c.args.rule.now) m c.args.gainer c.args.steps.now (λ none. (c.in-default.ensures none).own);
+      searched = nothing-one (g.R.Rule.order c.args.rule.now) m c.args.gainer c.args.steps.now (λ none. (c.in_default.ensures none).own);
       flags = c.flag-safe.ensures;
     }
 

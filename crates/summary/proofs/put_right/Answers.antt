@@ -6,5 +6,5 @@ pub returns : goal.returns
 returns c =
     let text = c.args.text.now in
     joined (vec_items c.args.out.now) (vec_items c.put-blanks.new.out) (replicate (c.args.width - length text) 32) text
-    (c.in-ok-put-blanks.ensures ∙ ap (λ n. vec_items c.args.out.now ++ replicate n 32) c.saturating-sub.ensures)
-    c.in-ok-extend-from-slice.ensures.items
+    (c.in_ok-put-blanks.ensures ∙ ap (λ n. vec_items c.args.out.now ++ replicate n 32) c.saturating-sub.ensures)
+    c.in_ok-extend-from-slice.ensures.items

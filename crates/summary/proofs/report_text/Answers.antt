@@ -7,8 +7,8 @@ use Rattle.summary.proofs.report_text.Goals as goal
 pub all-slots-slots-requires : goal.all-slots-slots-requires
 all-slots-slots-requires c = omega (arith, c.len-count.ensures, rows_few c.args.tasks.now)
 
-pub offset-bounds-totals-task : goal.offset-bounds-totals-task
-offset-bounds-totals-task c = omega (arith, c.len-count.ensures, c.loop-task-test.true, rows_few c.args.tasks.now)
+pub offset_bounds-totals-task : goal.offset_bounds-totals-task
+offset_bounds-totals-task c = omega (arith, c.len-count.ensures, c.loop-task-test.true, rows_few c.args.tasks.now)
 
 pub bounds-totals-task : goal.bounds-totals-task
 bounds-totals-task c = omega (arith, c.len-count.ensures, c.loop-task-test.true, rows_few c.args.tasks.now)
@@ -19,7 +19,7 @@ loop-task-preserved c =
     let rs = rows c.args.tasks.now in
     let totals = c.args.totals.now in
     let slots = c.all-slots-slots.result in
-    c.in-ok-put-task-line.ensures ∙ (ap (λ x. x ++ task_line c.name.result.now (get_or totals t 0) slots) c.loop-task.invariant
+    c.in_ok-put-task-line.ensures ∙ (ap (λ x. x ++ task_line c.name.result.now (get_or totals t 0) slots) c.loop-task.invariant
     ∙ (ap (λ x. task_lines rs totals slots t ++ task_line x (get_or totals t 0) slots) c.name.ensures.name ∙ sym (ap (task_lines rs totals slots) (add-one t))))
 
 pub returns : goal.returns
@@ -28,5 +28,5 @@ returns c =
     let totals = c.args.totals.now in
     let all : c.loop-task.task ≡ length rs = omega (arith, c.len-count.ensures, c.loop-task-test.false, c.loop-task.auto.task-end) in
     let slots : c.all-slots-slots.result ≡ slots_of totals (length rs) c.args.free = c.all-slots-slots.ensures ∙ ap (λ n. slots_of totals n c.args.free) c.len-count.ensures in
-    c.in-ok-put-free-line.ensures ∙ (ap (λ x. x ++ free_line c.args.free) c.loop-task.invariant
+    c.in_ok-put-free-line.ensures ∙ (ap (λ x. x ++ free_line c.args.free) c.loop-task.invariant
     ∙ (ap (λ n. task_lines rs totals c.all-slots-slots.result n ++ free_line c.args.free) all ∙ ap (λ n. task_lines rs totals n (length rs) ++ free_line c.args.free) slots))

@@ -5,8 +5,8 @@ use Rattle.board.specs.Meaning.{Meaning, free_at}
 use Rattle.board.proofs.Bounds.{sum_bound, free-small}
 use Rattle.board.proofs.Board.free_slots.Goals as goal
 
-pub overflow-add-free : goal.overflow-add-free
-overflow-add-free g c =
+pub overflow_add-free : goal.overflow_add-free
+overflow_add-free g c =
     let m : Meaning = g.Self.Board.meaning c.args.self.now in
     let f : ℕ → ℕ = free_at m in
     let small : (k : ℕ) → f k ≤ 1000 = λ k. free-small m c.requires.sound k in

@@ -5,8 +5,8 @@ use Rattle.board.specs.Meaning.{Meaning}
 use Rattle.board.proofs.Bounds.{sum_bound, held_small}
 use Rattle.board.proofs.Board.given.Goals as goal
 
-pub overflow-add-given : goal.overflow-add-given
-overflow-add-given g c =
+pub overflow_add-given : goal.overflow_add-given
+overflow_add-given g c =
     let m : Meaning = g.Self.Board.meaning c.args.self.now in
     let f : ℕ → ℕ = λ task. m.held task c.args.core in
     let small : (k : ℕ) → f k ≤ 1000 = λ k. held_small m c.requires.sound k c.args.core in

@@ -5,8 +5,8 @@ use Rattle.board.specs.Outcomes.{answered}
 use Rattle.board.proofs.Changes.{refused_full, done_held}
 use Rattle.board.proofs.Board.test_held.Goals as goal
 
-pub overflow-sub-others : goal.overflow-sub-others
-overflow-sub-others g c =
+pub overflow_sub-others : goal.overflow_sub-others
+overflow_sub-others g c =
     let m : Meaning = g.Self.Board.meaning c.args.self.now in
     omega (arith, sum-at m.tasks c.args.task (λ t. m.held t c.args.core) (omega arith))
 

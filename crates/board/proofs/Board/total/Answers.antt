@@ -5,8 +5,8 @@ use Rattle.board.specs.Meaning.{Meaning}
 use Rattle.board.proofs.Bounds.{sum_bound, held_small}
 use Rattle.board.proofs.Board.total.Goals as goal
 
-pub overflow-add-total : goal.overflow-add-total
-overflow-add-total g c =
+pub overflow_add-total : goal.overflow_add-total
+overflow_add-total g c =
     let m : Meaning = g.Self.Board.meaning c.args.self.now in
     let f : ℕ → ℕ = m.held c.args.task in
     let small : (k : ℕ) → f k ≤ 1000 = λ k. held_small m c.requires.sound c.args.task k in

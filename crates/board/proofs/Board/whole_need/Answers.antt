@@ -5,8 +5,8 @@ use Rattle.board.specs.Meaning.{Meaning}
 use Rattle.board.proofs.Bounds.{sum_bound}
 use Rattle.board.proofs.Board.whole_need.Goals as goal
 
-pub overflow-add-whole : goal.overflow-add-whole
-overflow-add-whole g c =
+pub overflow_add-whole : goal.overflow_add-whole
+overflow_add-whole g c =
     let m : Meaning = g.Self.Board.meaning c.args.self.now in
     let f : ℕ → ℕ = m.need c.args.task in
     let small : (k : ℕ) → f k ≤ 1000 = λ k. c.requires.sound.small c.args.task k in

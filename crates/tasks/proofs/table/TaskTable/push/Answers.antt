@@ -16,23 +16,23 @@ returns-in-Some c =
 
 pub task-of-requires : goal.task-of-requires
 task-of-requires c =
-    let new = fresh (rows c.args.self.now) c.args.task c.args.weight c.args.name.now c.in-default.ensures in
+    let new = fresh (rows c.args.self.now) c.args.task c.args.weight c.args.name.now c.in_default.ensures in
     let named = new.named in
     grind (arith, nat_tests)
 
 pub fill-requires : goal.fill-requires
 fill-requires c =
-    let new = fresh (rows c.args.self.now) c.args.task c.args.weight c.args.name.now c.in-default.ensures in
+    let new = fresh (rows c.args.self.now) c.args.task c.args.weight c.args.name.now c.in_default.ensures in
     let l = length-rows c.args.self.now.entries c.args.self.now.count (omega arith) in
     let room = new.room in
     omega arith
 
-pub invariant-of-self : goal.invariant-of-self
-invariant-of-self c =
+pub invariant_of-self : goal.invariant_of-self
+invariant_of-self c =
     let es = c.args.self.now.entries in
     let k = c.args.self.now.count in
     let r = row c.args.weight c.args.name.now in
-    let new = fresh (rows_of es k) c.args.task c.args.weight c.args.name.now c.in-default.ensures in
+    let new = fresh (rows_of es k) c.args.task c.args.weight c.args.name.now c.in_default.ensures in
     let l = length-rows es k (omega arith) in
     let room = new.room in
     let e : rows_of c.fill.new.self (k + 1) ≡ rows_of es k ++ r ∷ [] = rows_fill es c.fill.new.self k c.task-of.result (omega arith) c.fill.ensures ∙ ap (λ z. rows_of es k ++ z ∷ []) c.task-of.ensures in (
@@ -45,7 +45,7 @@ returns c =
     let es = c.args.self.now.entries in
     let k = c.args.self.now.count in
     let r = row c.args.weight c.args.name.now in
-    let none = c.in-default.ensures in
+    let none = c.in_default.ensures in
     let new = fresh (rows_of es k) c.args.task c.args.weight c.args.name.now none in
     let l = length-rows es k (omega arith) in
     let room = new.room in

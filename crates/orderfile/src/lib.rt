@@ -44,8 +44,8 @@ pub fn sizes_are_refused_as_read() -> u8
 
 // Fills the board and the task table with what the file says, and answers its letter; refused, both are clear.
 pub fn read<B: Board>(file: &[u8], board: &mut B, tasks: &mut TaskTable) -> Result<u8, Fault>
-    requires { Good meaning ready board.old }
-    ensures { Read meaning ready kept board.old board.new file.now (rows tasks.new) result }
+    requires { Good B.meaning B.ready board.old }
+    ensures { Read B.meaning B.ready B.kept board.old board.new file.now (rows tasks.new) result }
 {
     board.clear();
     tasks.clear();
@@ -61,8 +61,8 @@ pub fn read<B: Board>(file: &[u8], board: &mut B, tasks: &mut TaskTable) -> Resu
 
 // Reads record after record, up to the end record and the file's last byte.
 fn read_records<B: Board>(file: &[u8], board: &mut B, tasks: &mut TaskTable) -> Result<u8, Fault>
-    requires { Good meaning ready board.old }
-    ensures { Filled meaning ready kept board.old board.new (rows tasks.new) (order_of (run_from (meaning board.old) (rows tasks.old) file.now)) result }
+    requires { Good B.meaning B.ready board.old }
+    ensures { Filled B.meaning B.ready B.kept board.old board.new (rows tasks.new) (order_of (run_from (B.meaning board.old) (rows tasks.old) file.now)) result }
 {
     let mut records = Records::open(file)?;
     let mut reader = Reader::new(board.tasks(), board.cores());
@@ -78,8 +78,8 @@ fn read_records<B: Board>(file: &[u8], board: &mut B, tasks: &mut TaskTable) -> 
 
 // Puts what one record says on the board or into the table.
 fn apply<B: Board>(line: Line<'_>, board: &mut B, tasks: &mut TaskTable) -> Result<(), Fault>
-    requires { Good meaning ready board.old }
-    ensures { Applied meaning ready kept board.old board.new (rows tasks.old) (rows tasks.new) (said_by line.entry) result }
+    requires { Good B.meaning B.ready board.old }
+    ensures { Applied B.meaning B.ready B.kept board.old board.new (rows tasks.old) (rows tasks.new) (said_by line.entry) result }
 {
     match line {
         Line::Head | Line::End => Ok(()),
@@ -98,8 +98,8 @@ fn take<B: Board>(
     board: &mut B,
     tasks: &mut TaskTable,
 ) -> Result<(), Fault>
-    requires { Good meaning ready board.old }
-    ensures { Took meaning ready kept board.old board.new (reading reader.old seen (meaning board.old) (rows tasks.old)) (plain found.entry) reader.new (rows tasks.new) result }
+    requires { Good B.meaning B.ready board.old }
+    ensures { Took B.meaning B.ready B.kept board.old board.new (reading reader.old seen (B.meaning board.old) (rows tasks.old)) (plain found.entry) reader.new (rows tasks.new) result }
 {
     let place = found.place;
     match reader.line(found, seen) {

@@ -82,9 +82,9 @@ impl Search {
 
 // The task at the place, which still needs slots of the core, opens it: each task that holds one of them is found.
 fn open_core<B: Board>(board: &B, search: &mut Search, place: usize, core: usize)
-    requires good { Good meaning ready board.now }
-    requires start { MayOpen (meaning board.now) search.old place core }
-    ensures { Opened (meaning board.now) search.old search.new place core }
+    requires good { Good B.meaning B.ready board.now }
+    requires start { MayOpen (B.meaning board.now) search.old place core }
+    ensures { Opened (B.meaning board.now) search.old search.new place core }
 {
     let opening = search.opens;
     search.enter(place, core);
@@ -97,11 +97,11 @@ fn open_core<B: Board>(board: &B, search: &mut Search, place: usize, core: usize
 
 // The task at the place opens each core of which it still needs slots.
 fn open_wanted<B: Board>(board: &B, search: &mut Search, place: usize)
-    requires good { Good meaning ready board.now }
-    requires complete { Complete (meaning board.now) search.old }
+    requires good { Good B.meaning B.ready board.now }
+    requires complete { Complete (B.meaning board.now) search.old }
     requires place { place < search.old.count }
     requires latest { OpenersTo search.old place }
-    ensures { Spread (meaning board.now) search.old search.new place (meaning board.now).cores }
+    ensures { Spread (B.meaning board.now) search.old search.new place (B.meaning board.now).cores }
 {
     let task = search.tasks[place];
     for core in 0..board.cores() {
@@ -113,8 +113,8 @@ fn open_wanted<B: Board>(board: &B, search: &mut Search, place: usize)
 
 // What a rule is told of the task.
 pub fn share_of<B: Board>(board: &B, task: usize) -> Share
-    requires { Good meaning ready board.now }
-    ensures is { result ≡ share_on (meaning board.now) task }
+    requires { Good B.meaning B.ready board.now }
+    ensures is { result ≡ share_on (B.meaning board.now) task }
     ensures small { result.total ≤ 16000 }
 {
     Share {
@@ -127,7 +127,7 @@ pub fn share_of<B: Board>(board: &B, task: usize) -> Share
 // Whether a slot that goes from the loser to the gainer makes a plan fairer.
 pub fn should_gain<R: Rule>(rule: &R, gainer: Share, loser: Share) -> bool
     requires { gainer.total ≤ 16000 }
-    ensures { result ≡ gains_from (order rule.now) gainer loser }
+    ensures { result ≡ gains_from (R.order rule.now) gainer loser }
 {
     if loser.total == 0 {
         return false;
@@ -156,7 +156,7 @@ pub fn should_gain<R: Rule>(rule: &R, gainer: Share, loser: Share) -> bool
 // Whether the first task is at least as urgent as the second: then it should gain whatever the second should.
 fn as_urgent<R: Rule>(rule: &R, first: Share, second: Share) -> bool
     requires { (first.total ≤ 16000) × (second.total ≤ 16000) }
-    ensures { result ≡ as_urgent (order rule.now) first second }
+    ensures { result ≡ as_urgent (R.order rule.now) first second }
 {
     match rule.compare(first, second) {
         Rank::Below => true,
@@ -185,9 +185,9 @@ fn search_from<B: Board, R: Rule>(
     gainer: usize,
     search: &mut Search,
 ) -> Option<usize>
-    requires good { Good meaning ready board.now }
-    requires gainer { gainer < (meaning board.now).tasks }
-    ensures { Sought (order rule.now) (meaning board.now) gainer search.new result }
+    requires good { Good B.meaning B.ready board.now }
+    requires gainer { gainer < (B.meaning board.now).tasks }
+    ensures { Sought (R.order rule.now) (B.meaning board.now) gainer search.new result }
 {
     *search = Search::new();
     search.reach(gainer, 0);
@@ -246,10 +246,10 @@ fn flag_safe<B: Board, R: Rule>(
     search: &Search,
     safe: &mut [bool; MOST_TASKS],
 )
-    requires good { Good meaning ready board.now }
-    requires vain { NoneFreeOn (meaning board.now) → InVain (order rule.now) (meaning board.now) gainer search.now }
-    requires flags { SafeFlags (order rule.now) (meaning board.now) safe.old }
-    ensures { SafeFlags (order rule.now) (meaning board.now) safe.new }
+    requires good { Good B.meaning B.ready board.now }
+    requires vain { NoneFreeOn (B.meaning board.now) → InVain (R.order rule.now) (B.meaning board.now) gainer search.now }
+    requires flags { SafeFlags (R.order rule.now) (B.meaning board.now) safe.old }
+    ensures { SafeFlags (R.order rule.now) (B.meaning board.now) safe.new }
 {
     let share = share_of(board, gainer);
     for task in 0..board.tasks() {
@@ -270,12 +270,12 @@ fn route_from<B: Board, R: Rule>(
     steps: &mut [Step],
     safe: &mut [bool; MOST_TASKS],
 ) -> Option<Found>
-    requires good { Good meaning ready board.now }
-    requires gainer { gainer < (meaning board.now).tasks }
+    requires good { Good B.meaning B.ready board.now }
+    requires gainer { gainer < (B.meaning board.now).tasks }
     requires room { most_cores ≤ length steps.old }
-    requires flags { SafeFlags (order rule.now) (meaning board.now) safe.old }
-    ensures searched { Searched (order rule.now) (meaning board.now) gainer (gainer + 1) steps.old steps.new result }
-    ensures flags { SafeFlags (order rule.now) (meaning board.now) safe.new }
+    requires flags { SafeFlags (R.order rule.now) (B.meaning board.now) safe.old }
+    ensures searched { Searched (R.order rule.now) (B.meaning board.now) gainer (gainer + 1) steps.old steps.new result }
+    ensures flags { SafeFlags (R.order rule.now) (B.meaning board.now) safe.new }
 {
     let mut search = Search::new();
     let Some(place) = search_from(board, rule, gainer, &mut search) else {
@@ -299,12 +299,12 @@ fn route_among<B: Board, R: Rule>(
     steps: &mut [Step],
     safe: &mut [bool; MOST_TASKS],
 ) -> Option<Found>
-    requires good { Good meaning ready board.now }
-    requires tasks { to ≤ (meaning board.now).tasks }
+    requires good { Good B.meaning B.ready board.now }
+    requires tasks { to ≤ (B.meaning board.now).tasks }
     requires room { most_cores ≤ length steps.old }
-    requires flags { SafeFlags (order rule.now) (meaning board.now) safe.old }
-    ensures searched { Searched (order rule.now) (meaning board.now) from to steps.old steps.new result }
-    ensures flags { SafeFlags (order rule.now) (meaning board.now) safe.new }
+    requires flags { SafeFlags (R.order rule.now) (B.meaning board.now) safe.old }
+    ensures searched { Searched (R.order rule.now) (B.meaning board.now) from to steps.old steps.new result }
+    ensures flags { SafeFlags (R.order rule.now) (B.meaning board.now) safe.new }
 {
     for gainer in from..to {
         if safe[gainer] {
@@ -325,9 +325,9 @@ pub fn find_route<B: Board, R: Rule>(
     start: usize,
     steps: &mut [Step],
 ) -> Option<Found>
-    requires good { Good meaning ready board.now }
+    requires good { Good B.meaning B.ready board.now }
     requires room { most_cores ≤ length steps.old }
-    ensures { Searched (order rule.now) (meaning board.now) 0 (meaning board.now).tasks steps.old steps.new result }
+    ensures { Searched (R.order rule.now) (B.meaning board.now) 0 (B.meaning board.now).tasks steps.old steps.new result }
 {
     let tasks = board.tasks();
     let first = if start < tasks { start } else { 0 };

@@ -4,5 +4,5 @@ use Rattle.board_tests.proofs.in_lent_entries.Goals as goal
 
 pub returns : goal.returns
 returns c =
-    let stays = past-stays c.args.n c.args.m _ _ _ c.make-board.ensures c.first-surprise.ensures.keeps in
+    let stays = past-stays c.args.n c.args.m _ _ _ c.make-board.ensures c.first_surprise.ensures.keeps in
     search rules

@@ -13,5 +13,5 @@ returns-in-Ok-read c =
     let old : Meaning = table_of c.in-Ok.board in
     let read = c.in-Ok-read.ensures in
     let gave = order_is (read_of old file) old (table_of c.read.new.board) (rows c.read.new.tasks) c.in-Ok-read.letter read.told read.left read.listed in
-    let P : Outcome → Type 0 = λ o. FilePlanned o c.args.out.now c.write-by-letter.new.out c.answer.result in
-    subst P (sym (c.in-Ok.ensures.gives ∙ gave)) (record { wrote = c.write-by-letter.result; planned = c.write-by-letter.ensures; told = c.answer.ensures })
+    let P : Outcome → Type 0 = λ o. FilePlanned o c.args.out.now c.write_by_letter.new.out c.answer.result in
+    subst P (sym (c.in-Ok.ensures.gives ∙ gave)) (record { wrote = c.write_by_letter.result; planned = c.write_by_letter.ensures; told = c.answer.ensures })

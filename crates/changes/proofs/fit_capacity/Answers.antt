@@ -10,7 +10,7 @@ loop-task-init g c =
     let m : Meaning = b.meaning c.args.board.now in (
       went-nowhere b.meaning b.ready b.kept b.keeping c.args.board.now c.requires.good,
       refl,
-      fitting-start m c.args.core c.args.capacity c.saturating-sub-over.result (c.saturating-sub-over.ensures ∙ ap (λ z. z - c.args.capacity) c.given.ensures),
+      fitting-start m c.args.core c.args.capacity c.saturating_sub-over.result (c.saturating_sub-over.ensures ∙ ap (λ z. z - c.args.capacity) c.given.ensures),
     )
 
 pub loop-task-preserved : goal.loop-task-preserved
@@ -23,11 +23,11 @@ loop-task-preserved g c =
     let cores : m.cores ≡ old.cores = ap (λ (z : Meaning). z.cores) c.loop-task.invariant.1 in
     let tn : c.loop-task.task < m.tasks = omega (arith, tasks, c.tasks-task-end.ensures, c.loop-task-test.true) in
     let cm : c.args.core < m.cores = omega (arith, cores, c.requires.core) in
-    let left = c.saturating-sub-left.ensures in (
-      went_on b.meaning b.ready b.kept b.keeping c.args.board.now c.loop-task.board c.set-held.new.self c.loop-task.invariant.0 c.set-held.ensures.good c.set-held.ensures.keeps,
-      order-held old m (b.meaning c.set-held.new.self) c.loop-task.task c.args.core c.saturating-sub-left.result so tn cm (omega (arith, left, c.held-held.ensures)) c.set-held.ensures.left c.loop-task.invariant.1,
-      fitting-more m (b.meaning c.set-held.new.self) c.args.core c.args.capacity c.loop-task.over c.loop-task.task c.held-held.result c.saturating-sub-left.result
-          so tn cm c.held-held.ensures left c.set-held.ensures.left c.loop-task.invariant.2,
+    let left = c.saturating_sub-left.ensures in (
+      went_on b.meaning b.ready b.kept b.keeping c.args.board.now c.loop-task.board c.set_held.new.self c.loop-task.invariant.0 c.set_held.ensures.good c.set_held.ensures.keeps,
+      order-held old m (b.meaning c.set_held.new.self) c.loop-task.task c.args.core c.saturating_sub-left.result so tn cm (omega (arith, left, c.held-held.ensures)) c.set_held.ensures.left c.loop-task.invariant.1,
+      fitting-more m (b.meaning c.set_held.new.self) c.args.core c.args.capacity c.loop-task.over c.loop-task.task c.held-held.result c.saturating_sub-left.result
+          so tn cm c.held-held.ensures left c.set_held.ensures.left c.loop-task.invariant.2,
     )
 
 pub returns : goal.returns

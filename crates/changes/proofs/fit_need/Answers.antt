@@ -10,7 +10,7 @@ returns g c =
     let t = c.args.task in
     let k = c.args.core in
     record {
-      went = record { good = c.set-held.ensures.good; keeps = c.set-held.ensures.keeps };
-      fits = c.set-held.ensures.left ∙ (ap (after m) (done-fewer m t k c.min.result c.requires.good.sound c.requires.task c.requires.core (omega (arith, c.min.ensures, c.held-held.ensures)))
+      went = record { good = c.set_held.ensures.good; keeps = c.set_held.ensures.keeps };
+      fits = c.set_held.ensures.left ∙ (ap (after m) (done-fewer m t k c.min.result c.requires.good.sound c.requires.task c.requires.core (omega (arith, c.min.ensures, c.held-held.ensures)))
           ∙ ap (with_held m t k) (c.min.ensures ∙ ap (λ z. min z c.args.need) c.held-held.ensures));
     }

@@ -6,21 +6,21 @@ use Rattle.changes.proofs.Taking.{capacity-taken}
 use Rattle.changes.proofs.Replanning.{capacity-same, capacity-moves, plan-stays, plan-rests, plan-moves}
 use Rattle.changes.proofs.set_capacity.Goals as goal
 
-pub returns-in_err-test-capacity : goal.returns-in_err-test-capacity
-returns-in_err-test-capacity g c =
+pub returns-in_err-test_capacity : goal.returns-in_err-test_capacity
+returns-in_err-test_capacity g c =
     let b = g.B.Board in
     let a = c.args.board.now in
     plan-stays b.meaning b.ready b.kept b.keeping (g.R.Rule.order c.args.rule) a (plan_capacity (b.meaning a) c.args.core c.args.capacity) c.from-residual.result _ c.requires
-    c.in_err-test-capacity.ensures c.from-residual.ensures.1
+    c.in_err-test_capacity.ensures c.from-residual.ensures.1
 
 pub returns-then-capacity : goal.returns-then-capacity
 returns-then-capacity g c =
     let b = g.B.Board in
     let a = c.args.board.now in
     let m : Meaning = b.meaning a in
-    let t = capacity-taken m c.args.core c.args.capacity c.in_ok-test-capacity.ensures in
-    let changed = c.change-capacity.ensures in
-    plan-moves b.meaning b.ready b.kept b.keeping (g.R.Rule.order c.args.rule) a c.change-capacity.new.board (plan_capacity m c.args.core c.args.capacity) (with_capacity m c.args.core c.args.capacity)
+    let t = capacity-taken m c.args.core c.args.capacity c.in_ok-test_capacity.ensures in
+    let changed = c.change_capacity.ensures in
+    plan-moves b.meaning b.ready b.kept b.keeping (g.R.Rule.order c.args.rule) a c.change_capacity.new.board (plan_capacity m c.args.core c.args.capacity) (with_capacity m c.args.core c.args.capacity)
     t.comes (λ same. c.if-capacity.true (c.capacity.ensures ∙ sym (capacity-moves m c.args.core c.args.capacity same))) changed.order
     (record { good = changed.went.good; fairest = changed.fairest }) changed.went.keeps
 
@@ -29,6 +29,6 @@ returns-else-capacity g c =
     let b = g.B.Board in
     let a = c.args.board.now in
     let m : Meaning = b.meaning a in
-    let t = capacity-taken m c.args.core c.args.capacity c.in_ok-test-capacity.ensures in
+    let t = capacity-taken m c.args.core c.args.capacity c.in_ok-test_capacity.ensures in
     plan-rests b.meaning b.ready b.kept b.keeping (g.R.Rule.order c.args.rule) a (plan_capacity m c.args.core c.args.capacity) (with_capacity m c.args.core c.args.capacity)
     t.comes (capacity-same m c.args.core c.args.capacity (sym c.if-capacity.false ∙ c.capacity.ensures)) c.requires

@@ -19,8 +19,8 @@ returns g c =
     let b = g.B.Board in
     let m : Meaning = b.meaning c.args.board.now in
     record {
-      went = record { good = c.set-held.ensures.good; keeps = c.set-held.ensures.keeps };
-      improved = taken-better (g.R.Rule.order c.args.rule.now) (g.R.Rule.lawful c.args.rule.now) m c.requires.sound (b.meaning c.set-held.new.self) _ _ _ c.in-Some-free-pair.ensures.free_pair
-          c.held-held.ensures c.set-held.ensures.left;
+      went = record { good = c.set_held.ensures.good; keeps = c.set_held.ensures.keeps };
+      improved = taken-better (g.R.Rule.order c.args.rule.now) (g.R.Rule.lawful c.args.rule.now) m c.requires.sound (b.meaning c.set_held.new.self) _ _ _ c.in-Some-free_pair.ensures.free_pair
+          c.held-held.ensures c.set_held.ensures.left;
       few = omega arith;
     }

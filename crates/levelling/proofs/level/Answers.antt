@@ -9,9 +9,9 @@ pub loop-round-preserved : goal.loop-round-preserved
 loop-round-preserved g c =
     let b = g.B.Board in
     let one : Meaning = b.meaning c.improve.new.board in (
-      went_on b.keeping _ _ _ c.loop-round.invariant.0 (went_on b.keeping _ _ _ c.improve.ensures.went c.pass-more.ensures.went),
-      order-on (b.meaning c.give-out.new.board) (b.meaning c.loop-round.board) (b.meaning c.pass-more.new.board) c.loop-round.invariant.1
-          (order-on (b.meaning c.loop-round.board) one (b.meaning c.pass-more.new.board) c.in-Some.ensures.improved.same_order c.pass-more.ensures.order),
+      went_on b.keeping _ _ _ c.loop-round.invariant.0 (went_on b.keeping _ _ _ c.improve.ensures.went c.pass_more.ensures.went),
+      order-on (b.meaning c.give_out.new.board) (b.meaning c.loop-round.board) (b.meaning c.pass_more.new.board) c.loop-round.invariant.1
+          (order-on (b.meaning c.loop-round.board) one (b.meaning c.pass_more.new.board) c.in-Some.ensures.improved.same_order c.pass_more.ensures.order),
     )
 
 pub returns-in_default : goal.returns-in_default
@@ -23,8 +23,8 @@ returns-in_default g c =
     let P : Meaning → Type 0 = SameOrder (b.meaning c.args.board.now) in
     let Q : Meaning → Type 0 = FairestOn compare in
     record {
-      went = went_on b.keeping _ _ _ c.give-out.ensures.went (went_on b.keeping _ _ _ c.loop-round.invariant.0 end.went);
-      order = subst P (sym end.improved.same) (order-on (b.meaning c.args.board.now) (b.meaning c.give-out.new.board) m c.give-out.ensures.order c.loop-round.invariant.1);
+      went = went_on b.keeping _ _ _ c.give_out.ensures.went (went_on b.keeping _ _ _ c.loop-round.invariant.0 end.went);
+      order = subst P (sym end.improved.same) (order-on (b.meaning c.args.board.now) (b.meaning c.give_out.new.board) m c.give_out.ensures.order c.loop-round.invariant.1);
       fairest = subst Q (sym end.improved.same) (stands-fairest compare (g.R.Rule.lawful c.args.rule) m c.loop-round.invariant.0.good.sound end.improved.settled);
     }
 
@@ -44,14 +44,14 @@ loop-found-preserved g c =
 pub returns : goal.returns
 returns g c =
     let b = g.B.Board in
-    let filled : Meaning = b.meaning c.give-out.new.board in
+    let filled : Meaning = b.meaning c.give_out.new.board in
     let m : Meaning = b.meaning c.loop-found.board in
     let compare = g.R.Rule.order c.args.rule in
     let end = c.in_default-improve.ensures in
     let P : Meaning → Type 0 = SameOrder (b.meaning c.args.board.now) in
     let Q : Meaning → Type 0 = FairestOn compare in
     record {
-      went = went_on b.keeping _ _ _ c.give-out.ensures.went (went_on b.keeping _ _ _ c.loop-round.invariant.0 (went_on b.keeping _ _ _ c.loop-found.invariant.0 end.went));
-      order = subst P (sym end.improved.same) (order-on (b.meaning c.args.board.now) filled m c.give-out.ensures.order (order-on filled (b.meaning c.loop-round.board) m c.loop-round.invariant.1 c.loop-found.invariant.1));
+      went = went_on b.keeping _ _ _ c.give_out.ensures.went (went_on b.keeping _ _ _ c.loop-round.invariant.0 (went_on b.keeping _ _ _ c.loop-found.invariant.0 end.went));
+      order = subst P (sym end.improved.same) (order-on (b.meaning c.args.board.now) filled m c.give_out.ensures.order (order-on filled (b.meaning c.loop-round.board) m c.loop-round.invariant.1 c.loop-found.invariant.1));
       fairest = subst Q (sym end.improved.same) (stands-fairest compare (g.R.Rule.lawful c.args.rule) m c.loop-found.invariant.0.good.sound end.improved.settled);
     }

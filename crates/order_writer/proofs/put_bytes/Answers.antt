@@ -11,6 +11,6 @@ returns-then-end-out c =
     let n = length bytes in
     let k : p + (p + n - p) ≡ p + n = omega arith in
     let same =
-    ap (λ l. take p o ++ (l ++ drop (p + n - p) (drop p o))) c.copy-from-slice.ensures.after
+    ap (λ l. take p o ++ (l ++ drop (p + n - p) (drop p o))) c.copy_from_slice.ensures.after
     ∙ ap (λ l. take p o ++ (bytes ++ l)) (drop-drop (p + n - p) p o ∙ ap (λ j. drop j o) k) in
     record { onward = refl; fits = λ _. same; size = ap length same ∙ length-pasted o p bytes (omega arith) }

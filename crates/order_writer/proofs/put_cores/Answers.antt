@@ -10,8 +10,8 @@ use Rattle.order_writer.proofs.put_cores.Goals as goal
 pub loop-core-init : goal.loop-core-init
 loop-core-init g c = continued-none c.args.out.now c.args.from
 
-pub put-core-done-requires : goal.put-core-done-requires
-put-core-done-requires g c =
+pub put_core-done-requires : goal.put_core-done-requires
+put_core-done-requires g c =
     let m = g.B.Board.meaning c.args.board.now in
     let few : m.cores ≤ 16 = c.requires.good.sound.few_cores in
     few_on 1 16 3000 c.requires.few c.loop-core.invariant (omega (arith, cores-few c.loop-core.core m.capacity, few, c.cores-count.ensures, c.loop-core-test.true)) (omega arith)
@@ -20,8 +20,8 @@ pub loop-core-preserved : goal.loop-core-preserved
 loop-core-preserved g c =
     let m = g.B.Board.meaning c.args.board.now in
     let i = c.loop-core.core in
-    let P : ℕ → Type 0 = λ n. Continued c.loop-core.out c.put-core-done.new.out c.loop-core.done c.put-core-done.result (line Core (i ∷ word n) ∷ []) in
-    continued-each i (core_line m.capacity) c.loop-core.invariant (subst P c.capacity.ensures c.put-core-done.ensures)
+    let P : ℕ → Type 0 = λ n. Continued c.loop-core.out c.put_core-done.new.out c.loop-core.done c.put_core-done.result (line Core (i ∷ word n) ∷ []) in
+    continued-each i (core_line m.capacity) c.loop-core.invariant (subst P c.capacity.ensures c.put_core-done.ensures)
 
 pub returns : goal.returns
 returns g c =

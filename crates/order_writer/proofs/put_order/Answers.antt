@@ -7,37 +7,37 @@ use Rattle.order_writer.proofs.Pasting.{continued-on}
 use Rattle.order_writer.proofs.Counts.{few-more, after-head, after-cores, after-tasks, after-pairs}
 use Rattle.order_writer.proofs.put_order.Goals as goal
 
-pub put-tasks-named-requires : goal.put-tasks-named-requires
-put-tasks-named-requires g c =
+pub put_tasks-named-requires : goal.put_tasks-named-requires
+put_tasks-named-requires g c =
     let m = g.B.Board.meaning c.args.board.now in
-    after-cores m.cores m.capacity c.requires.good.sound.few_cores (after-head c.args.letter m.tasks m.cores c.put-head-head.ensures) c.put-cores-cores.ensures
+    after-cores m.cores m.capacity c.requires.good.sound.few_cores (after-head c.args.letter m.tasks m.cores c.put_head-head.ensures) c.put_cores-cores.ensures
 
-pub put-pairs-needs-requires : goal.put-pairs-needs-requires
-put-pairs-needs-requires g c =
+pub put_pairs-needs-requires : goal.put_pairs-needs-requires
+put_pairs-needs-requires g c =
     let m = g.B.Board.meaning c.args.board.now in
-    let cores = after-cores m.cores m.capacity c.requires.good.sound.few_cores (after-head c.args.letter m.tasks m.cores c.put-head-head.ensures) c.put-cores-cores.ensures in
-    record { good = c.requires.good; few = few-more 81 1105 (omega arith) (after-tasks c.args.tasks.now cores c.put-tasks-named.ensures) }
+    let cores = after-cores m.cores m.capacity c.requires.good.sound.few_cores (after-head c.args.letter m.tasks m.cores c.put_head-head.ensures) c.put_cores-cores.ensures in
+    record { good = c.requires.good; few = few-more 81 1105 (omega arith) (after-tasks c.args.tasks.now cores c.put_tasks-named.ensures) }
 
-pub put-pairs-requires : goal.put-pairs-requires
-put-pairs-requires g c =
+pub put_pairs-requires : goal.put_pairs-requires
+put_pairs-requires g c =
     let m = g.B.Board.meaning c.args.board.now in
     let s = c.requires.good.sound in
-    let cores = after-cores m.cores m.capacity s.few_cores (after-head c.args.letter m.tasks m.cores c.put-head-head.ensures) c.put-cores-cores.ensures in
-    let named = after-tasks c.args.tasks.now cores c.put-tasks-named.ensures in
-    record { good = c.requires.good; few = after-pairs 81 Need m.tasks m.cores m.need s.few_tasks s.few_cores named c.put-pairs-needs.ensures }
+    let cores = after-cores m.cores m.capacity s.few_cores (after-head c.args.letter m.tasks m.cores c.put_head-head.ensures) c.put_cores-cores.ensures in
+    let named = after-tasks c.args.tasks.now cores c.put_tasks-named.ensures in
+    record { good = c.requires.good; few = after-pairs 81 Need m.tasks m.cores m.need s.few_tasks s.few_cores named c.put_pairs-needs.ensures }
 
 pub returns : goal.returns
 returns g c =
     let m = g.B.Board.meaning c.args.board.now in
     let s = c.requires.good.sound in
     let rs = rows c.args.tasks.now in
-    let cores = after-cores m.cores m.capacity s.few_cores (after-head c.args.letter m.tasks m.cores c.put-head-head.ensures) c.put-cores-cores.ensures in
-    let named = after-tasks c.args.tasks.now cores c.put-tasks-named.ensures in
-    let needs = after-pairs 81 Need m.tasks m.cores m.need s.few_tasks s.few_cores named c.put-pairs-needs.ensures in
-    let P : ℕ → Type 0 = λ n. Continued c.args.out.now c.put-pairs.new.out nothing c.put-pairs.result
+    let cores = after-cores m.cores m.capacity s.few_cores (after-head c.args.letter m.tasks m.cores c.put_head-head.ensures) c.put_cores-cores.ensures in
+    let named = after-tasks c.args.tasks.now cores c.put_tasks-named.ensures in
+    let needs = after-pairs 81 Need m.tasks m.cores m.need s.few_tasks s.few_cores named c.put_pairs-needs.ensures in
+    let P : ℕ → Type 0 = λ n. Continued c.args.out.now c.put_pairs.new.out nothing c.put_pairs.result
     (head_line c.args.letter n m.cores ++ (each m.cores (core_line m.capacity) ++ (each (length rs) (task_line rs) ++ (pair_lines Need n m.cores m.need ++ pair_lines Slots n m.cores m.held)))) in
     record {
       lines = subst P (sym c.requires.sizes)
-          (continued-on c.put-head-head.ensures (continued-on c.put-cores-cores.ensures (continued-on c.put-tasks-named.ensures (continued-on c.put-pairs-needs.ensures c.put-pairs.ensures))));
-      few = after-pairs 1105 Slots m.tasks m.cores m.held s.few_tasks s.few_cores needs c.put-pairs.ensures;
+          (continued-on c.put_head-head.ensures (continued-on c.put_cores-cores.ensures (continued-on c.put_tasks-named.ensures (continued-on c.put_pairs-needs.ensures c.put_pairs.ensures))));
+      few = after-pairs 1105 Slots m.tasks m.cores m.held s.few_tasks s.few_cores needs c.put_pairs.ensures;
     }

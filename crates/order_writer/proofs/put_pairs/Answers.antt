@@ -8,8 +8,8 @@ use Rattle.order_writer.proofs.put_pairs.Goals as goal
 pub loop-task-init : goal.loop-task-init
 loop-task-init g c = continued-none c.args.out.now c.args.from
 
-pub put-task-pairs-done-requires : goal.put-task-pairs-done-requires
-put-task-pairs-done-requires g c =
+pub put_task_pairs-done-requires : goal.put_task_pairs-done-requires
+put_task_pairs-done-requires g c =
     let m = g.B.Board.meaning c.args.board.now in
     let few : m.tasks ≤ 64 = c.requires.good.sound.few_tasks in
     let cores : m.cores ≤ 16 = c.requires.good.sound.few_cores in
@@ -23,7 +23,7 @@ put-task-pairs-done-requires g c =
 pub loop-task-preserved : goal.loop-task-preserved
 loop-task-preserved g c =
     let m = g.B.Board.meaning c.args.board.now in
-    continued-each c.loop-task.task (task_pairs c.args.kind m.cores (amounts_of c.args.kind m)) c.loop-task.invariant c.put-task-pairs-done.ensures
+    continued-each c.loop-task.task (task_pairs c.args.kind m.cores (amounts_of c.args.kind m)) c.loop-task.invariant c.put_task_pairs-done.ensures
 
 pub returns : goal.returns
 returns g c =

@@ -6,6 +6,6 @@ pub returns : goal.returns
 returns c =
     let body = c.args.body.now in
     let long = 2 + length body in
-    let number = c.number-of.result in
+    let number = c.number_of.result in
     line-put {from = c.args.from} c.args.kind body (long ∷ 0 ∷ number ∷ 0 ∷ []) body
-    (line-bytes c.args.kind body long number c.requires.short refl c.number-of.ensures) c.requires.short c.put-bytes-at.ensures c.put-bytes.ensures
+    (line-bytes c.args.kind body long number c.requires.short refl c.number_of.ensures) c.requires.short c.put_bytes-at.ensures c.put_bytes.ensures

@@ -8,8 +8,8 @@ use Rattle.order_writer.proofs.put_task_pairs.Goals as goal
 pub loop-core-init : goal.loop-core-init
 loop-core-init g c = continued-none c.args.out.now c.args.from
 
-pub put-pair-done-requires : goal.put-pair-done-requires
-put-pair-done-requires g c =
+pub put_pair-done-requires : goal.put_pair-done-requires
+put_pair-done-requires g c =
     let m = g.B.Board.meaning c.args.board.now in
     let few : m.cores ≤ 16 = c.requires.good.sound.few_cores in
     few_on 2500 16 3000 c.requires.few c.loop-core.invariant (omega (arith, pairs-few c.args.kind c.loop-core.core (amounts_of c.args.kind m) c.args.task, few, c.cores-count.ensures, c.loop-core-test.true)) (omega arith)
@@ -20,9 +20,9 @@ loop-core-preserved g c =
     let kind = c.args.kind in
     let task = c.args.task in
     let i = c.loop-core.core in
-    let P : ℕ → Type 0 = λ n. Continued c.loop-core.out c.put-pair-done.new.out c.loop-core.done c.put-pair-done.result (pair_line kind task i n) in
+    let P : ℕ → Type 0 = λ n. Continued c.loop-core.out c.put_pair-done.new.out c.loop-core.done c.put_pair-done.result (pair_line kind task i n) in
     let lines : ℕ → List Line = λ core. pair_line kind task core (amounts_of kind m task core) in
-    continued-each i lines c.loop-core.invariant (subst P c.amount-of-amount.ensures c.put-pair-done.ensures)
+    continued-each i lines c.loop-core.invariant (subst P c.amount_of-amount.ensures c.put_pair-done.ensures)
 
 pub returns : goal.returns
 returns g c =

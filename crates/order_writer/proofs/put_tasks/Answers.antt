@@ -14,8 +14,8 @@ loop-task-init c = continued-none c.args.out.now c.args.from
 pub overflow_cast-task : goal.overflow_cast-task
 overflow_cast-task c = omega (arith, rows_few c.args.tasks.now, c.len-count.ensures, c.loop-task-test.true)
 
-pub put-task-done-requires : goal.put-task-done-requires
-put-task-done-requires c = record {
+pub put_task-done-requires : goal.put_task-done-requires
+put_task-done-requires c = record {
   few = few_on 17 64 3000 c.requires c.loop-task.invariant (omega (arith, tasks-few c.loop-task.task c.args.tasks.now, rows_few c.args.tasks.now, c.len-count.ensures, c.loop-task-test.true)) (omega arith);
   short = c.name.ensures.short;
 }
@@ -23,10 +23,10 @@ put-task-done-requires c = record {
 pub loop-task-preserved : goal.loop-task-preserved
 loop-task-preserved c =
     let i = c.loop-task.task in
-    let P : List ℕ → Type 0 = λ body. Continued c.loop-task.out c.put-task-done.new.out c.loop-task.done c.put-task-done.result (line Task body ∷ []) in
+    let P : List ℕ → Type 0 = λ body. Continued c.loop-task.out c.put_task-done.new.out c.loop-task.done c.put_task-done.result (line Task body ∷ []) in
     let rs = rows c.args.tasks.now in
     let said : ◌≡◌ {A = List ℕ} (i ∷ c.weight.result ∷ c.name.result.now) (i ∷ weight_in rs i ∷ name_in rs i) = λ j. i ∷ c.weight.ensures j ∷ c.name.ensures.name j in
-    continued-each i (task_line rs) c.loop-task.invariant (subst P said c.put-task-done.ensures)
+    continued-each i (task_line rs) c.loop-task.invariant (subst P said c.put_task-done.ensures)
 
 pub returns : goal.returns
 returns c =

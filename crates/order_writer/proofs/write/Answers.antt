@@ -11,12 +11,12 @@ returns g c =
     let rs = rows c.args.tasks.now in
     let out = c.args.out.now in
     let file : List ℕ = file_of c.args.letter rs m in
-    let counted = c.put-file-length.ensures.onward in
+    let counted = c.put_file-length.ensures.onward in
     let why : write_why c.args.letter rs m (length out) ≡ None =
-    allowed c.args.letter rs m (length out) c.in-Some.field-0 (sym c.sharing-of.ensures ∙ c.in-Some.is)
+    allowed c.args.letter rs m (length out) c.in-Some.field-0 (sym c.sharing_of.ensures ∙ c.in-Some.is)
     (omega (arith, c.len.ensures, c.tasks.ensures, c.if-len-tasks.false)) (omega (arith, c.tasks-else-len-tasks.ensures, c.if-tasks-eq0.false)) (omega (arith, counted, c.if-out-length.false)) in
     let far : 0 + length file ≡ length file = omega arith in
     record {
-      told = ap Ok (c.put-file.ensures.onward ∙ far) ∙ ap (λ w. told w (length file)) (sym why);
-      left = c.put-file.ensures.fits (omega (arith, counted, c.put-file.ensures.onward)) ∙ ap (λ n. file ++ drop n out) far ∙ ap (λ w. left w file out) (sym why);
+      told = ap Ok (c.put_file.ensures.onward ∙ far) ∙ ap (λ w. told w (length file)) (sym why);
+      left = c.put_file.ensures.fits (omega (arith, counted, c.put_file.ensures.onward)) ∙ ap (λ n. file ++ drop n out) far ∙ ap (λ w. left w file out) (sym why);
     }

@@ -16,7 +16,7 @@ returns-in_err-length g c =
     let second = c.args.second.now in
     record {
       went = went-nowhere g.B.Board.meaning g.B.Board.ready g.B.Board.kept g.B.Board.keeping second c.requires.second;
-      carried = not_written g.B.Board.meaning g.B.Board.ready g.B.Board.kept first c.args.letter rs c.args.second.now c.args.second.now c.args.second-tasks.now c.args.second-tasks.now c.args.out.now c.write.new.out why c.in_err-length.field-0.0 c.from-residual.result
+      carried = not_written g.B.Board.meaning g.B.Board.ready g.B.Board.kept first c.args.letter rs c.args.second.now c.args.second.now c.args.second_tasks.now c.args.second_tasks.now c.args.out.now c.write.new.out why c.in_err-length.field-0.0 c.from-residual.result
           (sym c.write.ensures.told ∙ c.in_err-length.was) (told.1 ∙ ap (λ x. Err x) told.2) c.write.ensures.left refl refl;
     }
 
@@ -27,6 +27,6 @@ returns g c =
     let why = write_why c.args.letter rs first (length c.args.out.now) in
     record {
       went = record { good = c.read.ensures.good; keeps = c.read.ensures.keeps };
-      carried = so-written g.B.Board.meaning g.B.Board.ready g.B.Board.kept first c.args.letter rs c.args.second.now c.read.new.board c.args.second-tasks.now c.read.new.tasks c.args.out.now c.write.new.out encodings-read why refl c.in_ok-length.length c.read.result
+      carried = so-written g.B.Board.meaning g.B.Board.ready g.B.Board.kept first c.args.letter rs c.args.second.now c.read.new.board c.args.second_tasks.now c.read.new.tasks c.args.out.now c.write.new.out encodings-read why refl c.in_ok-length.length c.read.result
           (sym c.write.ensures.told ∙ c.in_ok-length.was) c.write.ensures.left c.requires.first.sound c.requires.second.sound c.args.tasks.now.sound c.read.ensures;
     }

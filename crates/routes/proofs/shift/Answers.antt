@@ -8,9 +8,9 @@ returns g c =
     let m : Meaning = b.meaning c.args.board.now in
     record {
       went = record {
-        good = c.set-held-2.ensures.good;
-        keeps = b.keeping.onward _ _ _ c.set-held.ensures.keeps c.set-held-2.ensures.keeps;
+        good = c.set_held-2.ensures.good;
+        keeps = b.keeping.onward _ _ _ c.set_held.ensures.keeps c.set_held-2.ensures.keeps;
       };
-      shifted = shifted m c.args.taker c.args.core c.args.giver c.requires.good.sound c.requires.may (b.meaning c.set-held.new.self) (b.meaning c.set-held-2.new.self)
-          c.held-less.result c.held-more.result c.held-less.ensures c.held-more.ensures c.set-held.ensures.left c.set-held-2.ensures.left;
+      shifted = shifted m c.args.taker c.args.core c.args.giver c.requires.good.sound c.requires.may (b.meaning c.set_held.new.self) (b.meaning c.set_held-2.new.self)
+          c.held-less.result c.held-more.result c.held-less.ensures c.held-more.ensures c.set_held.ensures.left c.set_held-2.ensures.left;
     }

@@ -4,8 +4,8 @@ use Rattle.schedule.proofs.compare_runs.Goals as goal
 
 pub returns : goal.returns
 returns g c =
-    let one = c.run-and-judge-first.ensures in
-    let two = c.run-and-judge-second.ensures in
+    let one = c.run_and_judge-first.ensures in
+    let two = c.run_and_judge-second.ensures in
     record {
       first = one;
       second = two;

@@ -1,4 +1,4 @@
 use Rattle.search.proofs.+write_route.Given as goal
 
-abbrev pub decreases-write-route : goal.decreases-write-route
-decreases-write-route l = l.place
+abbrev pub decreases-write_route : goal.decreases-write_route
+decreases-write_route l = l.place

@@ -6,8 +6,8 @@ use Rattle.search.proofs.Searches.{none-set}
 use Rattle.search.proofs.Founds.{searched-round}
 use Rattle.search.proofs.find_route.Goals as goal
 
-pub route-among-requires : goal.route-among-requires
-route-among-requires g c = record {
+pub route_among-requires : goal.route_among-requires
+route_among-requires g c = record {
   good = c.requires.good;
   tasks = omega (arith, c.tasks-tasks.ensures);
   room = c.requires.room;
@@ -17,5 +17,5 @@ route-among-requires g c = record {
 pub returns : goal.returns
 returns g c =
     let m : Meaning = g.B.Board.meaning c.args.board.now in
-    let P : ℕ → Type 0 = λ to. NothingToGain (g.R.Rule.order c.args.rule.now) m c.if-start-tasks.first to c.args.steps.now c.route-among.new.steps in
-    searched-round _ _ _ _ _ _ _ c.route-among-2.result (subst P c.tasks-tasks.ensures c.in_default.ensures.searched) c.route-among-2.ensures.searched
+    let P : ℕ → Type 0 = λ to. NothingToGain (g.R.Rule.order c.args.rule.now) m c.if-start-tasks.first to c.args.steps.now c.route_among.new.steps in
+    searched-round _ _ _ _ _ _ _ c.route_among-2.result (subst P c.tasks-tasks.ensures c.in_default.ensures.searched) c.route_among-2.ensures.searched

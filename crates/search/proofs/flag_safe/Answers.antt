@@ -5,17 +5,17 @@ use Rattle.search.specs.Gains.{SafeFlags}
 use Rattle.search.proofs.Shares.{urgent-by-shares}
 use Rattle.search.proofs.Urgency.{flagged}
 use Rattle.search.proofs.flag_safe.Goals as goal
-use Rattle.search.proofs.flag_safe.Goals.{then-as-urgent, else-as-urgent}
+use Rattle.search.proofs.flag_safe.Goals.{then-as_urgent, else-as_urgent}
 
 pub loop-task-preserved : goal.loop-task-preserved
 loop-task-preserved g c =
     let m : Meaning = g.B.Board.meaning c.args.board.now in
     let compare : Comparison = g.R.Rule.order c.args.rule.now in
     let P : List Bool → Type 0 = SafeFlags compare m in
-    elim c.if-as-urgent.branch [
-      | then-as-urgent w ↦
+    elim c.if-as_urgent.branch [
+      | then-as_urgent w ↦
           subst P (sym w.safe-is) (flagged compare m c.loop-task.safe c.loop-task.task c.loop-task.invariant
           (λ none. (c.requires.vain none).others c.loop-task.task (omega (arith, c.loop-task-test.true, c.tasks-task-end.ensures)) c.if-not-search-task.false
-          (urgent-by-shares compare m c.args.gainer c.loop-task.task _ _ true c.share-of-share.ensures.is c.share-of.ensures.is w.if-as-urgent.ensures)))
-      | else-as-urgent w ↦ subst P (sym w.safe-is) c.loop-task.invariant
+          (urgent-by-shares compare m c.args.gainer c.loop-task.task _ _ true c.share_of-share.ensures.is c.share_of.ensures.is w.if-as_urgent.ensures)))
+      | else-as_urgent w ↦ subst P (sym w.safe-is) c.loop-task.invariant
     ]

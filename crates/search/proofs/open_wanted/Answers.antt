@@ -19,7 +19,7 @@ loop-core-preserved g c =
     let P : Search → Type 0 = λ u. Spread m s u x (b + 1) in
     elim c.if-not-search-core.branch [
       | then-not-search-core+then-held-need w ↦
-          subst P (sym w.search-is) (spread-open m s t x b c.requires.place c.loop-core.invariant w.open-core.new.search w.open-core.ensures)
+          subst P (sym w.search-is) (spread-open m s t x b c.requires.place c.loop-core.invariant w.open_core.new.search w.open_core.ensures)
       | else-not-search-core w ↦
           subst P (sym w.search-is) (spread-skip m s t x b c.requires.place c.loop-core.invariant (elim w.else-not-search-core.branch [
             | else-not-search-core-via-then-not-search-core+else-held-need w' ↦ inr (omega (arith, w'.if-held-need.false, w'.held.ensures, w'.need.ensures))

@@ -5,8 +5,8 @@ use Rattle.search.proofs.route_among.Goals as goal
 pub loop-gainer-init : goal.loop-gainer-init
 loop-gainer-init g c = (nothing-none _ _ _ _, c.requires.flags)
 
-pub route-from-requires : goal.route-from-requires
-route-from-requires g c = record { good = c.requires.good; gainer = omega (arith, c.requires.tasks); room = omega (arith, c.requires.room); flags = c.loop-gainer.invariant.1 }
+pub route_from-requires : goal.route_from-requires
+route_from-requires g c = record { good = c.requires.good; gainer = omega (arith, c.requires.tasks); room = omega (arith, c.requires.room); flags = c.loop-gainer.invariant.1 }
 
 pub returns-in-Some : goal.returns-in-Some
 returns-in-Some g c = record { searched = route-on _ _ _ _ _ _ _ _ c.loop-gainer.invariant.0 c.in-Some.ensures.searched; flags = c.in-Some.ensures.flags }

@@ -19,8 +19,8 @@ pub loop-head-preserved : goal.loop-head-preserved
 loop-head-preserved g c =
     let m : Meaning = g.B.Board.meaning c.args.board.now in
     let compare : Comparison = g.R.Rule.order c.args.rule.now in
-    trying-more compare m c.args.gainer c.requires.good.sound c.requires.gainer c.loop-head.search c.open-wanted.new.search c.loop-head.head
-    c.loop-head.invariant c.loop-head-test.true (by-shares (g.R.Rule.order c.args.rule.now) m c.args.gainer (task_at c.loop-head.search c.loop-head.head) _ _ false c.share-of-share.ensures.is c.share-of.ensures.is c.if-should-gain.ensures) c.open-wanted.ensures
+    trying-more compare m c.args.gainer c.requires.good.sound c.requires.gainer c.loop-head.search c.open_wanted.new.search c.loop-head.head
+    c.loop-head.invariant c.loop-head-test.true (by-shares (g.R.Rule.order c.args.rule.now) m c.args.gainer (task_at c.loop-head.search c.loop-head.head) _ _ false c.share_of-share.ensures.is c.share_of.ensures.is c.if-should_gain.ensures) c.open_wanted.ensures
 
 pub returns : goal.returns
 returns g c =
@@ -28,8 +28,8 @@ returns g c =
     let compare : Comparison = g.R.Rule.order c.args.rule.now in
     trying-all compare m c.args.gainer c.requires.good.sound c.requires.gainer (g.R.Rule.lawful c.args.rule.now) c.loop-head.search c.loop-head.head c.loop-head.invariant c.loop-head-test.false
 
-pub returns-then-should-gain : goal.returns-then-should-gain
-returns-then-should-gain g c =
+pub returns-then-should_gain : goal.returns-then-should_gain
+returns-then-should_gain g c =
     let m : Meaning = g.B.Board.meaning c.args.board.now in
     let h = c.loop-head.invariant in
     record {
@@ -39,5 +39,5 @@ returns-then-should-gain g c =
       gathered = h.complete.gathered;
       early = h.early;
       here = c.loop-head-test.true;
-      gains = by-shares (g.R.Rule.order c.args.rule.now) m c.args.gainer (task_at c.loop-head.search c.loop-head.head) _ _ true c.share-of-share.ensures.is c.share-of.ensures.is c.if-should-gain.ensures;
+      gains = by-shares (g.R.Rule.order c.args.rule.now) m c.args.gainer (task_at c.loop-head.search c.loop-head.head) _ _ true c.share_of-share.ensures.is c.share_of.ensures.is c.if-should_gain.ensures;
     }

@@ -5,7 +5,7 @@ use Rattle.summary.proofs.put_free_line.Goals as goal
 
 pub returns : goal.returns
 returns c =
-    joined (vec_items c.args.out.now) (vec_items c.put-left.new.out) (left_in 12 (codes "free")) (right_in 6 (decimal c.args.free) ++ 10 ∷ []) c.in_ok-put-left.ensures
-    (joined (vec_items c.put-left.new.out) (vec_items c.put-right.new.out) (right_in 6 (decimal c.args.free)) (10 ∷ [])
-    (c.in_ok-put-right.ensures ∙ ap (λ t. vec_items c.put-left.new.out ++ right_in 6 t) (c.as-bytes.ensures.value ∙ c.in_ok-number.ensures.ok))
+    joined (vec_items c.args.out.now) (vec_items c.put_left.new.out) (left_in 12 (codes "free")) (right_in 6 (decimal c.args.free) ++ 10 ∷ []) c.in_ok-put_left.ensures
+    (joined (vec_items c.put_left.new.out) (vec_items c.put_right.new.out) (right_in 6 (decimal c.args.free)) (10 ∷ [])
+    (c.in_ok-put_right.ensures ∙ ap (λ t. vec_items c.put_left.new.out ++ right_in 6 t) (c.as_bytes.ensures.value ∙ c.in_ok-number.ensures.ok))
     c.in_ok-push.ensures.items)

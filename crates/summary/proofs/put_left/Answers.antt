@@ -5,5 +5,5 @@ use Rattle.summary.proofs.put_left.Goals as goal
 pub returns : goal.returns
 returns c =
     let text = c.args.text.now in
-    joined (vec_items c.args.out.now) (vec_items c.extend-from-slice.new.self) text (replicate (c.args.width - length text) 32) c.in_ok-extend-from-slice.ensures.items
-    (c.in_ok-put-blanks.ensures ∙ ap (λ n. vec_items c.extend-from-slice.new.self ++ replicate n 32) c.saturating-sub.ensures)
+    joined (vec_items c.args.out.now) (vec_items c.extend_from_slice.new.self) text (replicate (c.args.width - length text) 32) c.in_ok-extend_from_slice.ensures.items
+    (c.in_ok-put_blanks.ensures ∙ ap (λ n. vec_items c.extend_from_slice.new.self ++ replicate n 32) c.saturating_sub.ensures)

@@ -4,16 +4,16 @@ use Rattle.board.proofs.Going.{went_on}
 use Rattle.table_levelling.proofs.Copying.{holds_on, above-lesser, planned-on}
 use Rattle.table_levelling.proofs.bring_slots.Goals as goal
 
-pub raise-slots-requires : goal.raise-slots-requires
-raise-slots-requires g c =
+pub raise_slots-requires : goal.raise_slots-requires
+raise_slots-requires g c =
     let b = g.B.Board in
     let from : Meaning = g.A.Board.meaning c.args.from.now in
     let old : Meaning = b.meaning c.args.to.now in
-    let m : Meaning = b.meaning c.lower-slots.new.to in
-    let lowered = c.lower-slots.ensures.lowered in
+    let m : Meaning = b.meaning c.lower_slots.new.to in
+    let lowered = c.lower_slots.ensures.lowered in
     record {
       from = c.requires.from;
-      to = c.lower-slots.ensures.went.good;
+      to = c.lower_slots.ensures.went.good;
       holds = holds_on from old m (lesser from.held old.held) lowered c.requires.holds;
       above = above-lesser from old m lowered;
     }
@@ -23,8 +23,8 @@ returns g c =
     let b = g.B.Board in
     let from : Meaning = g.A.Board.meaning c.args.from.now in
     let old : Meaning = b.meaning c.args.to.now in
-    let raised = c.raise-slots.ensures in
+    let raised = c.raise_slots.ensures in
     record {
-      went = went_on b.meaning b.ready b.kept b.keeping c.args.to.now c.lower-slots.new.to c.raise-slots.new.to c.lower-slots.ensures.went raised.went.good raised.went.keeps;
-      brought = planned-on old (b.meaning c.lower-slots.new.to) (b.meaning c.raise-slots.new.to) (lesser from.held old.held) from.held c.lower-slots.ensures.lowered raised.raised;
+      went = went_on b.meaning b.ready b.kept b.keeping c.args.to.now c.lower_slots.new.to c.raise_slots.new.to c.lower_slots.ensures.went raised.went.good raised.went.keeps;
+      brought = planned-on old (b.meaning c.lower_slots.new.to) (b.meaning c.raise_slots.new.to) (lesser from.held old.held) from.held c.lower_slots.ensures.lowered raised.raised;
     }

@@ -16,9 +16,9 @@ loop-core-preserved g c =
     let b = g.B.Board in
     let from : Meaning = g.A.Board.meaning c.args.from.now in
     let old : Meaning = b.meaning c.args.to.now in (
-      went_on b.meaning b.ready b.kept b.keeping c.args.to.now c.loop-core.to c.set-capacity.new.self c.loop-core.invariant.0 c.set-capacity.ensures.good c.set-capacity.ensures.keeps,
-      capacities-more from old (b.meaning c.loop-core.to) (b.meaning c.set-capacity.new.self) c.loop-core.core c.capacity.result
-          c.requires.from.sound c.requires.room (omega (arith, c.cores-core-end.ensures, c.loop-core-test.true)) c.capacity.ensures c.loop-core.invariant.1 c.set-capacity.ensures.left,
+      went_on b.meaning b.ready b.kept b.keeping c.args.to.now c.loop-core.to c.set_capacity.new.self c.loop-core.invariant.0 c.set_capacity.ensures.good c.set_capacity.ensures.keeps,
+      capacities-more from old (b.meaning c.loop-core.to) (b.meaning c.set_capacity.new.self) c.loop-core.core c.capacity.result
+          c.requires.from.sound c.requires.room (omega (arith, c.cores-core-end.ensures, c.loop-core-test.true)) c.capacity.ensures c.loop-core.invariant.1 c.set_capacity.ensures.left,
     )
 
 pub returns : goal.returns

@@ -12,8 +12,8 @@ loop-task-init g c =
     let old : Meaning = b.meaning c.args.to.now in
     (went-nowhere b.meaning b.ready b.kept b.keeping c.args.to.now c.requires.to, needs-start from old c.requires.clear)
 
-pub copy-task-needs-requires : goal.copy-task-needs-requires
-copy-task-needs-requires g c =
+pub copy_task_needs-requires : goal.copy_task_needs-requires
+copy_task_needs-requires g c =
     let b = g.B.Board in
     let from : Meaning = g.A.Board.meaning c.args.from.now in
     let old : Meaning = b.meaning c.args.to.now in
@@ -34,9 +34,9 @@ loop-task-preserved g c =
     let from : Meaning = g.A.Board.meaning c.args.from.now in
     let old : Meaning = b.meaning c.args.to.now in
     let m : Meaning = b.meaning c.loop-task.to in (
-      went_on b.meaning b.ready b.kept b.keeping c.args.to.now c.loop-task.to c.copy-task-needs.new.to c.loop-task.invariant.0 c.copy-task-needs.ensures.went.good c.copy-task-needs.ensures.went.keeps,
-      ordered-on old m (b.meaning c.copy-task-needs.new.to) (tasks_to from.need (λ _ _. 0) c.loop-task.task) (tasks_to from.need (λ _ _. 0) (c.loop-task.task + 1))
-          c.loop-task.invariant.1 c.copy-task-needs.ensures.copied,
+      went_on b.meaning b.ready b.kept b.keeping c.args.to.now c.loop-task.to c.copy_task_needs.new.to c.loop-task.invariant.0 c.copy_task_needs.ensures.went.good c.copy_task_needs.ensures.went.keeps,
+      ordered-on old m (b.meaning c.copy_task_needs.new.to) (tasks_to from.need (λ _ _. 0) c.loop-task.task) (tasks_to from.need (λ _ _. 0) (c.loop-task.task + 1))
+          c.loop-task.invariant.1 c.copy_task_needs.ensures.copied,
     )
 
 pub returns : goal.returns

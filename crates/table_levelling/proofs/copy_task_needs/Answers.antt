@@ -16,9 +16,9 @@ loop-core-preserved g c =
     let b = g.B.Board in
     let from : Meaning = g.A.Board.meaning c.args.from.now in
     let old : Meaning = b.meaning c.args.to.now in (
-      went_on b.meaning b.ready b.kept b.keeping c.args.to.now c.loop-core.to c.set-need.new.self c.loop-core.invariant.0 c.set-need.ensures.good c.set-need.ensures.keeps,
-      needs-more from old (b.meaning c.loop-core.to) (b.meaning c.set-need.new.self) c.args.task c.loop-core.core c.need.result
-          c.requires.from.sound c.requires.room c.requires.task (omega (arith, c.cores-core-end.ensures, c.loop-core-test.true)) c.need.ensures c.loop-core.invariant.1 c.set-need.ensures.left,
+      went_on b.meaning b.ready b.kept b.keeping c.args.to.now c.loop-core.to c.set_need.new.self c.loop-core.invariant.0 c.set_need.ensures.good c.set_need.ensures.keeps,
+      needs-more from old (b.meaning c.loop-core.to) (b.meaning c.set_need.new.self) c.args.task c.loop-core.core c.need.result
+          c.requires.from.sound c.requires.room c.requires.task (omega (arith, c.cores-core-end.ensures, c.loop-core-test.true)) c.need.ensures c.loop-core.invariant.1 c.set_need.ensures.left,
     )
 
 pub returns : goal.returns

@@ -12,8 +12,8 @@ loop-task-init g c =
     let old : Meaning = b.meaning c.args.to.now in
     (went-nowhere b.meaning b.ready b.kept b.keeping c.args.to.now c.requires.to, tasks-none (lesser from.held old.held) old)
 
-pub lower-task-requires : goal.lower-task-requires
-lower-task-requires g c =
+pub lower_task-requires : goal.lower_task-requires
+lower_task-requires g c =
     let b = g.B.Board in
     let from : Meaning = g.A.Board.meaning c.args.from.now in
     let old : Meaning = b.meaning c.args.to.now in
@@ -28,8 +28,8 @@ loop-task-preserved g c =
     let from : Meaning = g.A.Board.meaning c.args.from.now in
     let old : Meaning = b.meaning c.args.to.now in
     let m : Meaning = b.meaning c.loop-task.to in (
-      went_on b.meaning b.ready b.kept b.keeping c.args.to.now c.loop-task.to c.lower-task.new.to c.loop-task.invariant.0 c.lower-task.ensures.went.good c.lower-task.ensures.went.keeps,
-      lower-tasks-more from old m (b.meaning c.lower-task.new.to) c.loop-task.task c.requires.to.sound c.loop-task.invariant.1 c.lower-task.ensures.lowered,
+      went_on b.meaning b.ready b.kept b.keeping c.args.to.now c.loop-task.to c.lower_task.new.to c.loop-task.invariant.0 c.lower_task.ensures.went.good c.lower_task.ensures.went.keeps,
+      lower-tasks-more from old m (b.meaning c.lower_task.new.to) c.loop-task.task c.requires.to.sound c.loop-task.invariant.1 c.lower_task.ensures.lowered,
     )
 
 pub returns : goal.returns

@@ -20,10 +20,10 @@ loop-core-preserved g c =
     let m : Meaning = b.meaning c.loop-core.to in
     let tasks : m.tasks ≡ old.tasks = ap (λ (z : Meaning). z.tasks) c.loop-core.invariant.1 in
     let cores : m.cores ≡ old.cores = ap (λ (z : Meaning). z.cores) c.loop-core.invariant.1 in (
-      went_on b.meaning b.ready b.kept b.keeping c.args.to.now c.loop-core.to c.set-slots.new.board c.loop-core.invariant.0 c.set-slots.ensures.went.good c.set-slots.ensures.went.keeps,
-      lower-more from old m (b.meaning c.set-slots.new.board) c.args.task c.loop-core.core c.held.result c.held-in-loop-core.result c.min-least.result
+      went_on b.meaning b.ready b.kept b.keeping c.args.to.now c.loop-core.to c.set_slots.new.board c.loop-core.invariant.0 c.set_slots.ensures.went.good c.set_slots.ensures.went.keeps,
+      lower-more from old m (b.meaning c.set_slots.new.board) c.args.task c.loop-core.core c.held.result c.held-in-loop-core.result c.min-least.result
           c.loop-core.invariant.0.good.sound (omega (arith, tasks, c.requires.task)) (omega (arith, cores, c.cores-core-end.ensures, c.loop-core-test.true))
-          c.held.ensures c.held-in-loop-core.ensures c.min-least.ensures c.loop-core.invariant.1 c.set-slots.ensures.left,
+          c.held.ensures c.held-in-loop-core.ensures c.min-least.ensures c.loop-core.invariant.1 c.set_slots.ensures.left,
     )
 
 pub returns : goal.returns

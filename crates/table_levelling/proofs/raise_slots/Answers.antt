@@ -12,8 +12,8 @@ loop-task-init g c =
     let old : Meaning = b.meaning c.args.to.now in
     (went-nowhere b.meaning b.ready b.kept b.keeping c.args.to.now c.requires.to, tasks-none from.held old)
 
-pub raise-task-requires : goal.raise-task-requires
-raise-task-requires g c =
+pub raise_task-requires : goal.raise_task-requires
+raise_task-requires g c =
     let b = g.B.Board in
     let from : Meaning = g.A.Board.meaning c.args.from.now in
     let old : Meaning = b.meaning c.args.to.now in
@@ -34,8 +34,8 @@ loop-task-preserved g c =
     let from : Meaning = g.A.Board.meaning c.args.from.now in
     let old : Meaning = b.meaning c.args.to.now in
     let m : Meaning = b.meaning c.loop-task.to in (
-      went_on b.meaning b.ready b.kept b.keeping c.args.to.now c.loop-task.to c.raise-task.new.to c.loop-task.invariant.0 c.raise-task.ensures.went.good c.raise-task.ensures.went.keeps,
-      raise-tasks-more from old m (b.meaning c.raise-task.new.to) c.loop-task.task c.requires.from.sound c.requires.to.sound c.requires.holds c.loop-task.invariant.1 c.raise-task.ensures.raised,
+      went_on b.meaning b.ready b.kept b.keeping c.args.to.now c.loop-task.to c.raise_task.new.to c.loop-task.invariant.0 c.raise_task.ensures.went.good c.raise_task.ensures.went.keeps,
+      raise-tasks-more from old m (b.meaning c.raise_task.new.to) c.loop-task.task c.requires.from.sound c.requires.to.sound c.requires.holds c.loop-task.invariant.1 c.raise_task.ensures.raised,
     )
 
 pub returns : goal.returns

@@ -16,9 +16,9 @@ loop-core-preserved g c =
     let b = g.B.Board in
     let from : Meaning = g.A.Board.meaning c.args.from.now in
     let old : Meaning = b.meaning c.args.to.now in (
-      went_on b.meaning b.ready b.kept b.keeping c.args.to.now c.loop-core.to c.set-slots.new.board c.loop-core.invariant.0 c.set-slots.ensures.went.good c.set-slots.ensures.went.keeps,
-      raise-more from old (b.meaning c.loop-core.to) (b.meaning c.set-slots.new.board) c.args.task c.loop-core.core c.held.result
-          c.requires.task (omega (arith, c.cores-core-end.ensures, c.loop-core-test.true)) c.held.ensures c.requires.holds c.requires.above c.loop-core.invariant.1 c.set-slots.ensures.left,
+      went_on b.meaning b.ready b.kept b.keeping c.args.to.now c.loop-core.to c.set_slots.new.board c.loop-core.invariant.0 c.set_slots.ensures.went.good c.set_slots.ensures.went.keeps,
+      raise-more from old (b.meaning c.loop-core.to) (b.meaning c.set_slots.new.board) c.args.task c.loop-core.core c.held.result
+          c.requires.task (omega (arith, c.cores-core-end.ensures, c.loop-core-test.true)) c.held.ensures c.requires.holds c.requires.above c.loop-core.invariant.1 c.set_slots.ensures.left,
     )
 
 pub returns : goal.returns

@@ -5,4 +5,4 @@ use Rattle.std.specs.Str.{bytes_eq}
 use Rattle.tasks.proofs.is_named.Goals as goal
 
 pub returns : goal.returns
-returns c = same_from_decides _ _ (slice_eq-Decides Decides-eqb _ _ _ c.eq.ensures) (bytes_eq-Decides _ _) ∙ ap (λ n. bytes_eq n c.args.name.now) c.name-of.ensures
+returns c = same_from_decides _ _ (slice_eq-Decides Decides-eqb _ _ _ c.eq.ensures) (bytes_eq-Decides _ _) ∙ ap (λ n. bytes_eq n c.args.name.now) c.name_of.ensures

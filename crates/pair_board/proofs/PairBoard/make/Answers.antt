@@ -6,10 +6,10 @@ use Rattle.pair_board.specs.Pairs.{pair_fits}
 use Rattle.pair_board.proofs.Steps.{all-clear, none-serving, none-counted}
 use Rattle.pair_board.proofs.PairBoard.make.Goals as goal
 
-pub returns-then-is-err : goal.returns-then-is-err
-returns-then-is-err c =
+pub returns-then-is_err : goal.returns-then-is_err
+returns-then-is_err c =
     let entries = c.args.entries.now in
-    let not-fit : pair_fits c.args.n c.args.m (length entries) ≡ false = refuses _ c.check.result c.check.ensures c.if-is-err.ensures.value in
+    let not-fit : pair_fits c.args.n c.args.m (length entries) ≡ false = refuses _ c.check.result c.check.ensures c.if-is_err.ensures.value in
     let zero : min (length entries) (0 * 0) ≡ 0 = omega arith in
     let empty = all-clear 0 0 entries ∙ ap (λ x. new_board 0 0 x most_slots) zero in
     record {
@@ -27,7 +27,7 @@ returns c =
     let n : ℕ = c.args.n in
     let m : ℕ = c.args.m in
     let entries = c.args.entries.now in
-    let fit : pair_fits n m (length entries) ≡ true = passes _ c.check.result c.check.ensures c.if-is-err.ensures.value in
+    let fit : pair_fits n m (length entries) ≡ true = passes _ c.check.result c.check.ensures c.if-is_err.ensures.value in
     let clear = all-clear n m entries in
     record {
       good = record {

@@ -10,15 +10,15 @@ use Rattle.pair_board.proofs.Lookups.{absent_none}
 use Rattle.pair_board.proofs.Steps.{need-there, need-changed, need-changed-serving, pair-removed, pair-removed-serving, pair-added, pair-added-serving, need-stands, recounted, room-left, in_list}
 use Rattle.pair_board.proofs.PairBoardBoard.set_need.Goals as goal
 
-pub returns-in_err-test-need : goal.returns-in_err-test-need
-returns-in_err-test-need c =
-    stays pairs_of Ready Untouched untouched-keeps _ _ _ _ c.requires c.in_err-test-need.ensures c.from-residual.ensures.1
+pub returns-in_err-test_need : goal.returns-in_err-test_need
+returns-in_err-test_need c =
+    stays pairs_of Ready Untouched untouched-keeps _ _ _ _ c.requires c.in_err-test_need.ensures c.from-residual.ensures.1
 
 pub bounds-self-next : goal.bounds-self-next
 bounds-self-next c =
     let b : PairBoard = c.args.self.now in
     let m : Meaning = pairs_of b in
-    let p = need-passed m c.args.task c.args.core c.args.need c.in_ok-test-need.ensures in
+    let p = need-passed m c.args.task c.args.core c.args.need c.in_ok-test_need.ensures in
     let none = absent_none (λ entry. entry.need) b.entries.now b.used c.args.task c.args.core c.in-None.ensures in
     omega (arith, c.requires.serves.counted, room-left c.args.need (m.need c.args.task c.args.core) m.greatest_pairs (pair_count m) p.room c.if-need-gt0-2.true none)
 
@@ -33,14 +33,14 @@ returns-then-need-gt0 c =
     let here = c.in-Some.at in
     let found = c.in-Some.ensures in
     let serves = c.requires.serves in
-    let p = need-passed m task core c.args.need c.in_ok-test-need.ensures in
+    let p = need-passed m task core c.args.need c.in_ok-test_need.ensures in
     let inside = in_list b c.requires in
     let fits : b.used ≤ length entries = omega (arith, inside) in
     let left = need-changed b.tasks b.cores b.used b.capacities entries serves.serving fits task core here found c.args.need c.if-need-gt0.true in
     let was : needed (m.need task core) ≡ 1 =
     needed-one _ (omega (arith, serves.serving.some here found.0, need-there b.tasks b.cores b.used b.capacities entries serves.serving fits task core here found c.args.need)) in
     let count = recounted m _ task core c.args.need p.on_tasks p.on_cores left in
-    need-changes pairs_of Ready Untouched b _ task core c.args.need c.requires c.in_ok-test-need.ensures left
+    need-changes pairs_of Ready Untouched b _ task core c.args.need c.requires c.in_ok-test_need.ensures left
     (record {
       sixteen = serves.sixteen;
       counted = omega (arith, serves.counted, count, was, needed-one c.args.need c.if-need-gt0.true);
@@ -60,7 +60,7 @@ returns-else-need-gt0 c =
     let last : ℕ = b.used - 1 in
     let found = c.in-Some.ensures in
     let serves = c.requires.serves in
-    let p = need-passed m task core c.args.need c.in_ok-test-need.ensures in
+    let p = need-passed m task core c.args.need c.in_ok-test_need.ensures in
     let zero : c.args.need ≡ 0 = omega (arith, c.if-need-gt0.false) in
     let inside = in_list b c.requires in
     let fits : b.used ≤ length entries = omega (arith, inside) in
@@ -69,7 +69,7 @@ returns-else-need-gt0 c =
     let was : needed (m.need task core) ≡ 1 =
     needed-one _ (omega (arith, serves.serving.some here found.0, need-there b.tasks b.cores b.used b.capacities entries serves.serving fits task core here found 0)) in
     let count = recounted m _ task core 0 p.on_tasks p.on_cores left in
-    need-changes pairs_of Ready Untouched b _ task core c.args.need c.requires c.in_ok-test-need.ensures
+    need-changes pairs_of Ready Untouched b _ task core c.args.need c.requires c.in_ok-test_need.ensures
     (left ∙ ap (with_need m task core) (sym zero))
     (record {
       sixteen = serves.sixteen;
@@ -89,7 +89,7 @@ returns-then-need-gt0-2 c =
     let absent = c.in-None.ensures in
     let serves = c.requires.serves in
     let some = c.if-need-gt0-2.true in
-    let p = need-passed m task core c.args.need c.in_ok-test-need.ensures in
+    let p = need-passed m task core c.args.need c.in_ok-test_need.ensures in
     let none = absent_none (λ entry. entry.need) entries b.used task core absent in
     let more = room-left c.args.need (m.need task core) m.greatest_pairs (pair_count m) p.room some none in
     let room : b.used < taken b = omega (arith, serves.counted, more) in
@@ -97,7 +97,7 @@ returns-then-need-gt0-2 c =
     let fits : b.used ≤ length entries = omega (arith, below) in
     let left = pair-added b.tasks b.cores b.used b.capacities entries serves.serving fits task core absent below c.args.need in
     let count = recounted m _ task core c.args.need p.on_tasks p.on_cores left in
-    need-changes pairs_of Ready Untouched b _ task core c.args.need c.requires c.in_ok-test-need.ensures left
+    need-changes pairs_of Ready Untouched b _ task core c.args.need c.requires c.in_ok-test_need.ensures left
     (record {
       sixteen = serves.sixteen;
       counted = omega (arith, serves.counted, count, needed-none (m.need task core) (omega (arith, none)), needed-one c.args.need some);
@@ -110,6 +110,6 @@ pub returns-else-need-gt0-2 : goal.returns-else-need-gt0-2
 returns-else-need-gt0-2 c =
     let b : PairBoard = c.args.self.now in
     let none = absent_none (λ entry. entry.need) b.entries.now b.used c.args.task c.args.core c.in-None.ensures in
-    need-changes pairs_of Ready Untouched b b c.args.task c.args.core c.args.need c.requires c.in_ok-test-need.ensures
+    need-changes pairs_of Ready Untouched b b c.args.task c.args.core c.args.need c.requires c.in_ok-test_need.ensures
     (need-stands (pairs_of b) c.args.task c.args.core c.args.need (omega (arith, none, c.if-need-gt0-2.false)))
     c.requires.serves (untouched-keeps.same b)

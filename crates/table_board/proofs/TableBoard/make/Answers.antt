@@ -9,7 +9,7 @@ pub returns : goal.returns
 returns c =
     let n : ℕ = c.args.n in
     let m : ℕ = c.args.m in
-    let can : table_fits n m (length c.args.cells.now) ≡ true = passes _ c.check.result c.check.ensures c.if-is-err.ensures.value in
+    let can : table_fits n m (length c.args.cells.now) ≡ true = passes _ c.check.result c.check.ensures c.if-is_err.ensures.value in
     let f = fits n m (length c.args.cells.now) can in
     let clear = all-zero n m c.wipe.new.cells c.wipe.ensures.zero in
     record {

@@ -11,4 +11,4 @@ returns c =
     let m : Meaning = table_of c.args.self.now in
     let tn = c.if-task-self.false in
     let cm = c.if-core-self.false in
-    sym (ap answered (done-need m c.args.task c.args.core c.args.need tn cm c.if-need-gt-MOST-SLOTS.false (omega (arith, c.held.ensures, c.if-need-held.false)) (λ some free. pairs_below m c.args.task c.args.core tn cm free)))
+    sym (ap answered (done-need m c.args.task c.args.core c.args.need tn cm c.if-need-gt-MOST_SLOTS.false (omega (arith, c.held.ensures, c.if-need-held.false)) (λ some free. pairs_below m c.args.task c.args.core tn cm free)))

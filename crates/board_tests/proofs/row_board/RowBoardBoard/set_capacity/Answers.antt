@@ -8,9 +8,9 @@ use Rattle.board_tests.proofs.row_board.RowBoardBoard.set_capacity.Goals as goal
 pub returns : goal.returns
 returns c =
     let b : RowBoard = c.args.self.now in
-    let p = capacity-passed (rows_of b) c.args.core c.args.capacity c.in_ok-test-capacity.ensures in
+    let p = capacity-passed (rows_of b) c.args.core c.args.capacity c.in_ok-test_capacity.ensures in
     let on : c.args.core < 16 = omega (arith, p.on_cores, c.requires.sound.few_cores) in
-    capacity-changes rows_of Whole Anyhow b _ c.args.core c.args.capacity c.requires c.in_ok-test-capacity.ensures
+    capacity-changes rows_of Whole Anyhow b _ c.args.core c.args.capacity c.requires c.in_ok-test_capacity.ensures
     (capacity-written b.tasks b.cores b.rows c.args.core p.on_cores (omega (arith, on, c.requires.serves.sixteen)) c.args.capacity)
     (still-whole b c.args.core (with_row_capacity (row_at b.rows c.args.core) c.args.capacity) c.requires.serves on refl refl)
     tt

@@ -17,7 +17,7 @@ returns-then-task-self c =
 pub returns : goal.returns
 returns c =
     let rs = rows_of c.args.self.now.entries c.args.self.now.count in
-    let e = c.name-of.ensures ∙ sym (ap (λ r. r.name) (row_at c.args.self.now.entries c.args.self.now.count c.args.task c.index-self-task.result no_row (omega arith) (omega arith))) in
+    let e = c.name_of.ensures ∙ sym (ap (λ r. r.name) (row_at c.args.self.now.entries c.args.self.now.count c.args.task c.index-self-task.result no_row (omega arith) (omega arith))) in
     let fit = sound-name rs c.args.task c.args.self.now.sound in
     record {
       name = e;

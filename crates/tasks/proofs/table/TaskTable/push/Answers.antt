@@ -14,8 +14,8 @@ returns-in-Some c =
       unchanged = refl;
     }
 
-pub task-of-requires : goal.task-of-requires
-task-of-requires c =
+pub task_of-requires : goal.task_of-requires
+task_of-requires c =
     let new = fresh (rows c.args.self.now) c.args.task c.args.weight c.args.name.now c.in_default.ensures in
     let named = new.named in
     grind (arith, nat_tests)
@@ -35,8 +35,8 @@ invariant_of-self c =
     let new = fresh (rows_of es k) c.args.task c.args.weight c.args.name.now c.in_default.ensures in
     let l = length-rows es k (omega arith) in
     let room = new.room in
-    let e : rows_of c.fill.new.self (k + 1) ≡ rows_of es k ++ r ∷ [] = rows_fill es c.fill.new.self k c.task-of.result (omega arith) c.fill.ensures ∙ ap (λ z. rows_of es k ++ z ∷ []) c.task-of.ensures in (
-      ap length c.fill.ensures ∙ length-set es.tasks k c.task-of.result ∙ c.args.self.now.size,
+    let e : rows_of c.fill.new.self (k + 1) ≡ rows_of es k ++ r ∷ [] = rows_fill es c.fill.new.self k c.task_of.result (omega arith) c.fill.ensures ∙ ap (λ z. rows_of es k ++ z ∷ []) c.task_of.ensures in (
+      ap length c.fill.ensures ∙ length-set es.tasks k c.task_of.result ∙ c.args.self.now.size,
       (omega arith, (subst (λ rs. sound rs ≡ true) (sym e) (sound-push (rows_of es k) r c.args.self.now.sound new.weighed new.named new.alone), tt)),
     )
 
@@ -51,6 +51,6 @@ returns c =
     let room = new.room in
     record {
       told = ap answered none;
-      left = rows_fill es c.fill.new.self k c.task-of.result (omega arith) c.fill.ensures ∙ ap (λ z. rows_of es k ++ z ∷ []) c.task-of.ensures ∙ ap (λ o. unless_refused o (rows_of es k) r) none;
+      left = rows_fill es c.fill.new.self k c.task_of.result (omega arith) c.fill.ensures ∙ ap (λ z. rows_of es k ++ z ∷ []) c.task_of.ensures ∙ ap (λ o. unless_refused o (rows_of es k) r) none;
       unchanged = tt;
     }

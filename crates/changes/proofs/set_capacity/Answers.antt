@@ -10,8 +10,8 @@ pub returns-in_err-test_capacity : goal.returns-in_err-test_capacity
 returns-in_err-test_capacity g c =
     let b = g.B.Board in
     let a = c.args.board.now in
-    plan-stays b.meaning b.ready b.kept b.keeping (g.R.Rule.order c.args.rule) a (plan_capacity (b.meaning a) c.args.core c.args.capacity) c.from-residual.result _ c.requires
-    c.in_err-test_capacity.ensures c.from-residual.ensures.1
+    plan-stays b.meaning b.ready b.kept b.keeping (g.R.Rule.order c.args.rule) a (plan_capacity (b.meaning a) c.args.core c.args.capacity) c.from_residual.result _ c.requires
+    c.in_err-test_capacity.ensures c.from_residual.ensures.1
 
 pub returns-then-capacity : goal.returns-then-capacity
 returns-then-capacity g c =

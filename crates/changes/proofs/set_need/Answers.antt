@@ -10,8 +10,8 @@ pub returns-in_err-test_need : goal.returns-in_err-test_need
 returns-in_err-test_need g c =
     let b = g.B.Board in
     let a = c.args.board.now in
-    plan-stays b.meaning b.ready b.kept b.keeping (g.R.Rule.order c.args.rule) a (plan_need (b.meaning a) c.args.task c.args.core c.args.need) c.from-residual.result _ c.requires
-    c.in_err-test_need.ensures c.from-residual.ensures.1
+    plan-stays b.meaning b.ready b.kept b.keeping (g.R.Rule.order c.args.rule) a (plan_need (b.meaning a) c.args.task c.args.core c.args.need) c.from_residual.result _ c.requires
+    c.in_err-test_need.ensures c.from_residual.ensures.1
 
 pub returns-then-need : goal.returns-then-need
 returns-then-need g c =

@@ -37,10 +37,10 @@ returns-in_err-records g c =
     let b = g.B.Board in
     let m = b.meaning c.args.board.now in
     let rs = rows c.args.tasks.now in
-    let left = err_from_is_err_and c.from-residual.result c.from-residual.ensures.1 in
+    let left = err_from_is_err_and c.from_residual.result c.from_residual.ensures.1 in
     let fault = c.in_err-records.field-0.0 in
     record {
-      told = refused-told c.from-residual.result m rs (run_from m rs c.args.file.now) fault (left.1 ∙ ap (λ x. Err x) left.2) (unopened m rs c.args.file.now fault c.in_err-records.ensures);
+      told = refused-told c.from_residual.result m rs (run_from m rs c.args.file.now) fault (left.1 ∙ ap (λ x. Err x) left.2) (unopened m rs c.args.file.now fault c.in_err-records.ensures);
       frame = refl;
       good = c.requires;
       keeps = b.keeping.same c.args.board.now;
@@ -52,10 +52,10 @@ returns-in_err-found g c =
     let at = c.loop-records in
     let whole = run_from (b.meaning c.args.board.now) (rows c.args.tasks.now) c.args.file.now in
     let s = reading at.reader at.seen (b.meaning at.board) (rows at.tasks) in
-    let left = err_from_is_err_and c.from-residual-in_err-found.result c.from-residual-in_err-found.ensures.1 in
+    let left = err_from_is_err_and c.from_residual-in_err-found.result c.from_residual-in_err-found.ensures.1 in
     let fault = c.in_err-found.field-0.0 in
     record {
-      told = refused-told c.from-residual-in_err-found.result (b.meaning at.board) (rows at.tasks) whole fault (left.1 ∙ ap (λ x. Err x) left.2)
+      told = refused-told c.from_residual-in_err-found.result (b.meaning at.board) (rows at.tasks) whole fault (left.1 ∙ ap (λ x. Err x) left.2)
           (ends-cut whole s at.records.file.now at.records.at fault at.invariant.1 (sym c.loop-records-test.ensures) c.in_err-found.ensures.answer);
       frame = at.invariant.0.frame;
       good = at.invariant.0.good;
@@ -69,12 +69,12 @@ returns-in_err-take g c =
     let whole = run_from (b.meaning c.args.board.now) (rows c.args.tasks.now) c.args.file.now in
     let s = reading at.reader at.seen (b.meaning at.board) (rows at.tasks) in
     let cut = plain c.in_ok-found.found in
-    let left = err_from_is_err_and c.from-residual-in_err-take.result c.from-residual-in_err-take.ensures.1 in
+    let left = err_from_is_err_and c.from_residual-in_err-take.result c.from_residual-in_err-take.ensures.1 in
     let fault = c.in_err-take.field-0.0 in
     let taken = c.take.ensures in
     let on = onward b.keeping c.args.board.now at.board c.take.new.board at.invariant.0 (record { frame = taken.frame; good = taken.good; keeps = taken.keeps }) in
     record {
-      told = refused-told c.from-residual-in_err-take.result (b.meaning c.take.new.board) (rows c.take.new.tasks) whole fault (left.1 ∙ ap (λ x. Err x) left.2)
+      told = refused-told c.from_residual-in_err-take.result (b.meaning c.take.new.board) (rows c.take.new.tasks) whole fault (left.1 ∙ ap (λ x. Err x) left.2)
           (ends-refused whole s at.records.file.now at.records.at cut fault at.invariant.1 (sym c.loop-records-test.ensures) c.in_ok-found.ensures.answer c.in_err-take.ensures.told);
       frame = on.frame;
       good = on.good;
@@ -87,10 +87,10 @@ returns-in_err-finish g c =
     let at = c.loop-records in
     let whole = run_from (b.meaning c.args.board.now) (rows c.args.tasks.now) c.args.file.now in
     let s = reading at.reader at.seen (b.meaning at.board) (rows at.tasks) in
-    let left = err_from_is_err_and c.from-residual-in_err-finish.result c.from-residual-in_err-finish.ensures.1 in
+    let left = err_from_is_err_and c.from_residual-in_err-finish.result c.from_residual-in_err-finish.ensures.1 in
     let fault = c.in_err-finish.field-0.0 in
     record {
-      told = refused-told c.from-residual-in_err-finish.result (b.meaning at.board) (rows at.tasks) whole fault (left.1 ∙ ap (λ x. Err x) left.2)
+      told = refused-told c.from_residual-in_err-finish.result (b.meaning at.board) (rows at.tasks) whole fault (left.1 ∙ ap (λ x. Err x) left.2)
           (ends-followed whole s at.records.file.now at.records.at fault at.invariant.1 (sym c.loop-records-test.ensures) c.in_err-finish.ensures);
       frame = at.invariant.0.frame;
       good = at.invariant.0.good;

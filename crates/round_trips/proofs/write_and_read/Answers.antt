@@ -12,11 +12,11 @@ returns-in_err-length g c =
     let first = g.A.Board.meaning c.args.first.now in
     let rs = rows c.args.tasks.now in
     let why = write_why c.args.letter rs first (length c.args.out.now) in
-    let told = err_from_is_err_and c.from-residual.result c.from-residual.ensures.1 in
+    let told = err_from_is_err_and c.from_residual.result c.from_residual.ensures.1 in
     let second = c.args.second.now in
     record {
       went = went-nowhere g.B.Board.meaning g.B.Board.ready g.B.Board.kept g.B.Board.keeping second c.requires.second;
-      carried = not_written g.B.Board.meaning g.B.Board.ready g.B.Board.kept first c.args.letter rs c.args.second.now c.args.second.now c.args.second_tasks.now c.args.second_tasks.now c.args.out.now c.write.new.out why c.in_err-length.field-0.0 c.from-residual.result
+      carried = not_written g.B.Board.meaning g.B.Board.ready g.B.Board.kept first c.args.letter rs c.args.second.now c.args.second.now c.args.second_tasks.now c.args.second_tasks.now c.args.out.now c.write.new.out why c.in_err-length.field-0.0 c.from_residual.result
           (sym c.write.ensures.told ∙ c.in_err-length.was) (told.1 ∙ ap (λ x. Err x) told.2) c.write.ensures.left refl refl;
     }
 

@@ -7,7 +7,7 @@ pub returns-in_err-number : goal.returns-in_err-number
 returns-in_err-number c =
     let word = c.args.word.now in
     let index = c.loop-digit.digit-index in
-    c.from-residual.ensures ∙ (sym (none_stays (drop (index + 1) word))
+    c.from_residual.ensures ∙ (sym (none_stays (drop (index + 1) word))
     ∙ (read_more word index c.loop-digit.number None c.loop-digit-test.true (sym c.in_err-number.was ∙ c.with_digit.ensures) c.loop-digit.invariant
     ∙ sym (read_whole word (eqb-false _ _ (sym c.if-is_empty.ensures)))))
 

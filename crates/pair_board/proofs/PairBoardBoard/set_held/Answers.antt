@@ -11,7 +11,7 @@ use Rattle.pair_board.proofs.PairBoardBoard.set_held.Goals as goal
 
 pub returns-in_err-test_held : goal.returns-in_err-test_held
 returns-in_err-test_held c =
-    stays pairs_of Ready Untouched untouched-keeps _ _ _ _ c.requires c.in_err-test_held.ensures c.from-residual.ensures.1
+    stays pairs_of Ready Untouched untouched-keeps _ _ _ _ c.requires c.in_err-test_held.ensures c.from_residual.ensures.1
 
 pub returns-in-Some : goal.returns-in-Some
 returns-in-Some c =

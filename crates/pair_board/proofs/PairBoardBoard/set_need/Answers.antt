@@ -12,7 +12,7 @@ use Rattle.pair_board.proofs.PairBoardBoard.set_need.Goals as goal
 
 pub returns-in_err-test_need : goal.returns-in_err-test_need
 returns-in_err-test_need c =
-    stays pairs_of Ready Untouched untouched-keeps _ _ _ _ c.requires c.in_err-test_need.ensures c.from-residual.ensures.1
+    stays pairs_of Ready Untouched untouched-keeps _ _ _ _ c.requires c.in_err-test_need.ensures c.from_residual.ensures.1
 
 pub bounds-self-next : goal.bounds-self-next
 bounds-self-next c =

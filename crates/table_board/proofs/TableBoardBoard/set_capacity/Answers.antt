@@ -8,7 +8,7 @@ use Rattle.table_board.proofs.TableBoardBoard.set_capacity.Goals as goal
 
 pub returns-in_err-test_capacity : goal.returns-in_err-test_capacity
 returns-in_err-test_capacity c =
-    stays table_of Long Untouched untouched-keeps _ _ _ _ c.requires c.in_err-test_capacity.ensures c.from-residual.ensures.1
+    stays table_of Long Untouched untouched-keeps _ _ _ _ c.requires c.in_err-test_capacity.ensures c.from_residual.ensures.1
 
 pub bounds-self-at : goal.bounds-self-at
 bounds-self-at c =

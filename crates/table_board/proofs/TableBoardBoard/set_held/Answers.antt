@@ -9,7 +9,7 @@ use Rattle.table_board.proofs.TableBoardBoard.set_held.Goals as goal
 
 pub returns-in_err-test_held : goal.returns-in_err-test_held
 returns-in_err-test_held c =
-    stays table_of Long Untouched untouched-keeps _ _ _ _ c.requires c.in_err-test_held.ensures c.from-residual.ensures.1
+    stays table_of Long Untouched untouched-keeps _ _ _ _ c.requires c.in_err-test_held.ensures c.from_residual.ensures.1
 
 pub bounds-self-at : goal.bounds-self-at
 bounds-self-at c =

@@ -9,7 +9,7 @@ use Rattle.table_board.proofs.TableBoardBoard.set_need.Goals as goal
 
 pub returns-in_err-test_need : goal.returns-in_err-test_need
 returns-in_err-test_need c =
-    stays table_of Long Untouched untouched-keeps _ _ _ _ c.requires c.in_err-test_need.ensures c.from-residual.ensures.1
+    stays table_of Long Untouched untouched-keeps _ _ _ _ c.requires c.in_err-test_need.ensures c.from_residual.ensures.1
 
 pub bounds-self-at : goal.bounds-self-at
 bounds-self-at c =

@@ -7,7 +7,7 @@ use Rattle.board_tests.proofs.row_board.RowBoardBoard.set_need.Goals as goal
 
 pub returns-in_err-test_need : goal.returns-in_err-test_need
 returns-in_err-test_need c =
-    stays rows_of Whole Anyhow anyhow-keeps _ _ _ _ c.requires c.in_err-test_need.ensures c.from-residual.ensures.1
+    stays rows_of Whole Anyhow anyhow-keeps _ _ _ _ c.requires c.in_err-test_need.ensures c.from_residual.ensures.1
 
 pub returns : goal.returns
 returns c =

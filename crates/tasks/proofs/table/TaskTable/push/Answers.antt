@@ -35,10 +35,12 @@ invariant_of-self c =
     let new = fresh (rows_of es k) c.args.task c.args.weight c.args.name.now c.in_default.ensures in
     let l = length-rows es k (omega arith) in
     let room = new.room in
-    let e : rows_of c.fill.new.self (k + 1) ≡ rows_of es k ++ r ∷ [] = rows_fill es c.fill.new.self k c.task_of.result (omega arith) c.fill.ensures ∙ ap (λ z. rows_of es k ++ z ∷ []) c.task_of.ensures in (
-      ap length c.fill.ensures ∙ length-set es.tasks k c.task_of.result ∙ c.args.self.now.size,
-      (omega arith, (subst (λ rs. sound rs ≡ true) (sym e) (sound-push (rows_of es k) r c.args.self.now.sound new.weighed new.named new.alone), tt)),
-    )
+    let e : rows_of c.fill.new.self (k + 1) ≡ rows_of es k ++ r ∷ [] = rows_fill es c.fill.new.self k c.task_of.result (omega arith) c.fill.ensures ∙ ap (λ z. rows_of es k ++ z ∷ []) c.task_of.ensures in
+    record {
+      size = ap length c.fill.ensures ∙ length-set es.tasks k c.task_of.result ∙ c.args.self.now.size;
+      room = omega arith;
+      sound = subst (λ rs. sound rs ≡ true) (sym e) (sound-push (rows_of es k) r c.args.self.now.sound new.weighed new.named new.alone);
+    }
 
 pub returns : goal.returns
 returns c =

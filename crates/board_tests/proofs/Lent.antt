@@ -1,12 +1,12 @@
 -- What lies past a pair board is its lender's.
-use Rattle.std.proofs.Common.{◌≡◌, ℕ, ◌*◌, min, cond, List, length, drop, sym, ap, ◌∙◌, inl, inr, Bor}
+use Rattle.std.proofs.Common.{◌≡◌, ℕ, ◌*◌, min, cond, List, length, drop, sym, ap, ◌∙◌, inl, inr, MutBor}
 use Rattle.std.proofs.lemmas.Bool.{cases_Bool}
 use Rattle.board.specs.Meaning.{Meaning, most_slots, new_board}
 use Rattle.pair_board.specs.declared.entry.Entry.{Entry}
 use Rattle.pair_board.specs.declared.PairBoard.{PairBoard}
 use Rattle.pair_board.specs.Pairs.{pair_fits, pairs_of, taken, Untouched, Made}
 
-pub past-stays : (n m : ℕ) (lent : Bor (List Entry)) (made later : PairBoard) → Made n m lent made → Untouched made later
+pub past-stays : (n m : ℕ) (lent : MutBor (List Entry)) (made later : PairBoard) → Made n m lent made → Untouched made later
     → drop (min (length lent.now) (n * m)) later.entries.now ≡ drop (min (length lent.now) (n * m)) lent.now
 past-stays n m lent made later is untouched =
     let clear : Meaning = new_board n m (min (length lent.now) (n * m)) most_slots in

@@ -1,10 +1,10 @@
 -- A plan in either state, while a run is played.
 use Rattle.std.specs.Prelude.{Bool, true, false}
-use Rattle.std.specs.Borrow.{Bor}
+use Rattle.std.specs.Borrow.{MutBor}
 use Rattle.plan.specs.declared.runs.State.{State}
 use Rattle.plan.specs.declared.runs.State.TheVariants.{Working, Released}
 
-abbrev pub lent_of : {B R : Type 0} → State B R → Bor B
+abbrev pub lent_of : {B R : Type 0} → State B R → MutBor B
 lent_of (Working plan) = plan.board
 lent_of (Released plan) = plan.board
 

@@ -16,7 +16,7 @@ returns-in-Ok g c =
       told = ap letter_of e;
       left = ap (board_of m) e;
       listed = ap rows_of e;
-      lawful = subst (Lawful m c.args.file.now) (sym e) (reading-lawful m c.args.file.now c.requires.sound (All-from_get_or Byte c.args.file.now 0 (λ i h. omega (arith, c.type-inv.file i))));
+      lawful = subst (Lawful m c.args.file.now) (sym e) (reading-lawful m c.args.file.now c.requires.sound (All-from_get_or Byte c.args.file.now 0 (λ i h. omega (arith, c.type_inv.file i))));
       good = filled.good;
       keeps = b.keeping.onward c.args.board.now c.clear.new.self c.read_records.new.board c.clear.ensures.keeps filled.keeps;
     }
@@ -33,7 +33,7 @@ returns-in-Err g c =
       told = ap letter_of e;
       left = again.left ∙ filled.frame ∙ ap cleared c.clear.ensures.left ∙ ap (board_of m) e;
       listed = c.clear-in-Err-2.ensures ∙ ap rows_of e;
-      lawful = subst (Lawful m c.args.file.now) (sym e) (reading-lawful m c.args.file.now c.requires.sound (All-from_get_or Byte c.args.file.now 0 (λ i h. omega (arith, c.type-inv.file i))));
+      lawful = subst (Lawful m c.args.file.now) (sym e) (reading-lawful m c.args.file.now c.requires.sound (All-from_get_or Byte c.args.file.now 0 (λ i h. omega (arith, c.type_inv.file i))));
       good = again.good;
       keeps = b.keeping.onward c.args.board.now c.read_records.new.board c.clear-in-Err.new.self keeps again.keeps;
     }

@@ -1,62 +1,49 @@
 #!/bin/bash
 # Shows what the compiler stops: setting a need on a released plan, and writing from a working one.
-# Each wrong program is its right one less the line that changes the plan's state; the right one must compile, and the
-# wrong one must be refused for the missing method alone. Nothing is proved or run, so this takes seconds.
+# Each wrong program is its right one less the line that changes the plan's state; the right one must compile and run, and
+# the wrong one must be refused for the missing method alone. Nothing is proved, so this takes a minute or less.
 set -euo pipefail
 cd "$(dirname "$0")/.."
-kit=$(dirname "$(dirname "$(rt doc)")")
 scratch=$(mktemp -d)
 trap 'rm -rf "$scratch"' EXIT
 
-# what the programs use, and what that uses in turn
-used=' plan rules table_board tasks '
-for name in $used; do echo "$name"; done >"$scratch/todo"
-while read -r name; do
-    for under in $(sed -n "s/^$name:\([^#]*\).*/\1/p" crates.txt); do
-        case $used in *" $under "*) ;; *) used="$used$under " && echo "$under" >>"$scratch/todo" ;; esac
-    done
-done <"$scratch/todo"
+# the crates as they stand, with the programs beside them, outside the checkout
+cp -r --parents crates.txt crates/*/src crates/*/specs "$scratch"
+git init -q "$scratch"
 
-# the kit's libraries and these, as source
-libraries=()
-while IFS=: read -r name uses; do
-    libraries+=(--lib "$name:$(echo $uses | tr ' ' ,)=$kit/$name/src/lib.rt")
-done <"$kit/libs.txt"
-for name in $used; do
-    libraries+=(--lib "$name=crates/$name/src/lib.rt")
-done
+add_program() { # NAME: its text comes from standard input
+    mkdir -p "$scratch/crates/$1/src"
+    cat >"$scratch/crates/$1/src/main.rt"
+    echo "$1: plan rules table_board tasks" >>"$scratch/crates.txt"
+}
 
-compile() { # PROGRAM: its errors go to PROGRAM.err
-    "$kit/bin/rattle-print-mir" "$scratch/$1/main.rt" --crate-name "$1" "${libraries[@]}" >"$scratch/$1.mir" 2>"$scratch/$1.err"
+compile() { # PROGRAM: what is said goes to PROGRAM.said
+    (cd "$scratch/crates/$1" && rt try) >"$scratch/$1.said" 2>&1
 }
 
 fail() { # PROGRAM MESSAGE
     echo "plan states: $1: $2" >&2
-    head -n 5 "$scratch/$1.err" >&2
+    head -n 5 "$scratch/$1.said" >&2
     exit 1
 }
 
 must_compile() { # PROGRAM
     compile "$1" || fail "$1" "is refused, and should not be"
-    [ -s "$scratch/$1.mir" ] || fail "$1" "compiles to nothing"
+    grep -q '^run=ended status=0' "$scratch/$1.said" || fail "$1" "does not run"
     echo "plan states: $1: compiles"
 }
 
 must_be_refused() { # PROGRAM METHOD TYPE
     ! compile "$1" || fail "$1" "compiles, and should not"
-    [ "$(grep -c 'error\[' "$scratch/$1.err")" = 1 ] || fail "$1" "is refused for more than one reason"
-    grep -q "error\[unknown-method\].*\`$2\`.*\`$3<" "$scratch/$1.err" || fail "$1" "is refused for another reason than that a $3 has no $2"
+    [ "$(grep -c 'error\[' "$scratch/$1.said")" = 1 ] || fail "$1" "is refused for more than one reason"
+    grep -q "error\[unknown-method\].*\`$2\`.*\`$3<" "$scratch/$1.said" || fail "$1" "is refused for another reason than that a $3 has no $2"
     echo "plan states: $1: refused, since a $3 has no $2"
 }
 
-mkdir "$scratch"/{need_after_reopen,need_on_released,write_after_release,write_from_working}
-
-cat >"$scratch/need_after_reopen/main.rt" <<'END'
+add_program need_after_reopen <<'END'
 use plan::states::WorkingPlan;
 use rules::Even;
-use rules::EvenRule;
 use table_board::TableBoard;
-use table_board::TableIsBoard;
 
 fn main() {
     let mut numbers = [0; 3];
@@ -69,14 +56,12 @@ fn main() {
     plan.end();
 }
 END
-grep -v 'plan.reopen()' "$scratch/need_after_reopen/main.rt" >"$scratch/need_on_released/main.rt"
+grep -v 'plan.reopen()' "$scratch/crates/need_after_reopen/src/main.rt" | add_program need_on_released
 
-cat >"$scratch/write_after_release/main.rt" <<'END'
+add_program write_after_release <<'END'
 use plan::states::WorkingPlan;
 use rules::Even;
-use rules::EvenRule;
 use table_board::TableBoard;
-use table_board::TableIsBoard;
 use tasks::table::TaskTable;
 
 fn main() {
@@ -89,7 +74,7 @@ fn main() {
     let _ = plan.write(&tasks, 101, &mut file);
 }
 END
-grep -v 'plan.release()' "$scratch/write_after_release/main.rt" >"$scratch/write_from_working/main.rt"
+grep -v 'plan.release()' "$scratch/crates/write_after_release/src/main.rt" | add_program write_from_working
 
 must_compile need_after_reopen
 must_be_refused need_on_released set_need ReleasedPlan

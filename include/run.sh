@@ -3,7 +3,7 @@
 set -euo pipefail
 cd "$(dirname "$0")/.."
 mkdir -p target
-rt staticlib c_calls >target/staticlib.log 2>&1 || { cat target/staticlib.log; exit 1; }
-kit=$(dirname "$(dirname "$(rt doc)")")
-cc -O2 -Wall -Wextra -Werror -Iinclude -o target/example include/example.c target/staticlib/libc_calls.a "$kit/lib/librattle_c.a"
+(cd crates/c_calls && rt lib) >target/staticlib.log 2>&1 || { cat target/staticlib.log; exit 1; }
+kit=$(dirname "$(rt doc)")
+cc -O2 -Wall -Wextra -Werror -Iinclude -o target/example include/example.c crates/c_calls/out/libc_calls.a "$kit/c/liblibc_c.a"
 target/example

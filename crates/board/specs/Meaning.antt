@@ -1,5 +1,5 @@
 -- What a board says, and the condition that every board keeps.
-use Rattle.std.specs.Prelude.{◌≡◌, ℕ, ◌+◌, ◌-◌, ◌<◌, ◌≤◌, Bool, cond, ◌&&◌, ◌==◌, nat_le, nat_lt}
+use Rattle.std.specs.Prelude.{◌≡◌, ℕ, ◌-◌, ◌<◌, ◌≤◌, Bool, cond, ◌&&◌, ◌==◌, nat_le, nat_lt}
 use Rattle.fairness.specs.Sums.{sum_to}
 use Rattle.fairness.specs.Plans.{Plan, given, total}
 

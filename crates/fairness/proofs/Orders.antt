@@ -1,5 +1,5 @@
 -- Levels on one board, with a cap on each task's total: a level is a task and a total, and `cmp i x k y` says where (i, x) stands, seen from (k, y).
-use Rattle.std.proofs.Common.{◌≡◌, ℕ, suc, ◌-◌, ◌<◌, Bool, true, false, cond, ◌&&◌, ◌||◌, ◌⊎◌}
+use Rattle.std.proofs.Common.{◌≡◌, ℕ, suc, ◌-◌, ◌<◌, Bool, true, false, cond, ◌⊎◌}
 use Rattle.fairness.specs.declared.Rank.{Rank}
 use Rattle.fairness.specs.declared.Rank.TheVariants.{Below}
 use Rattle.fairness.specs.Sums.{sum_to}

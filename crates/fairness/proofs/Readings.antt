@@ -1,6 +1,6 @@
 -- Both readings of "every lower level" come to the same.
 use Rattle.fairness.specs.Plans.{total}
-use Rattle.fairness.specs.Readings.{FairerAmongHad, ReadingsAgree}
+use Rattle.fairness.specs.Readings.{ReadingsAgree}
 use Rattle.fairness.proofs.Pot as on
 use Rattle.fairness.proofs.Rules.{on-board-laws}
 use Rattle.fairness.proofs.Levels.{cmp, fairer-on, fairer-off}

@@ -1,12 +1,12 @@
 -- A settled plan is fairest.
-use Rattle.std.proofs.Common.{◌≡◌, ℕ, zero, suc, ◌+◌, ◌-◌, ◌<◌, ◌≤◌, Bool, true, false, cond, ◌&&◌, ◌||◌, ltb, leb, ◌⊎◌, sym, refl, ap, ◌∙◌, subst, inl, inr, arith}
+use Rattle.std.proofs.Common.{◌≡◌, ℕ, zero, suc, ◌+◌, ◌-◌, ◌<◌, ◌≤◌, Bool, true, false, cond, ltb, leb, ◌⊎◌, sym, refl, ap, ◌∙◌, subst, inl, inr, arith}
 use Rattle.std.proofs.lemmas.Bool.{cases_lt, cases_order, lt-ltb, cond-true, true≢false, false≢true}
 use Rattle.fairness.specs.Sums.{sum_to}
 use Rattle.fairness.specs.Plans.{total, Feasible}
 use Rattle.fairness.specs.Routes.{worthwhile}
 use Rattle.fairness.specs.Settled.{Closed}
 use Rattle.fairness.proofs.Steps.{Capped, Strict, Held, worth}
-use Rattle.fairness.specs.Laws.{is_below, is_level}
+use Rattle.fairness.specs.Laws.{is_below}
 use Rattle.fairness.proofs.Orders.{Compare, Laws, Rising, at_or_below, Fairest, gains, Safe, Settled}
 use Rattle.fairness.specs.declared.Rank.{Rank}
 use Rattle.fairness.specs.declared.Rank.TheVariants.{Below, Level, Above}

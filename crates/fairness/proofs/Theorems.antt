@@ -7,7 +7,6 @@ use Rattle.fairness.specs.Levels.{Fairer, Countable, share_of}
 use Rattle.fairness.specs.Routes.{should_gain}
 use Rattle.fairness.specs.Settled.{Settled, NoneFree, NoFairerRoute}
 use Rattle.fairness.specs.Theorems.{SettledFairest, FairestSettled, FreeSlotFairer, ExchangeFairer, FairestExactly, FairestSameLevels, FairestWithinOne, LevellingEnds}
-use Rattle.fairness.proofs.Orders as on
 use Rattle.fairness.proofs.Sums.{sum_lt, sum-at}
 use Rattle.fairness.proofs.Rules.{on-board-laws, on-board-rising}
 use Rattle.fairness.proofs.Boards.{capped-whole}

@@ -1,11 +1,9 @@
 -- How many lines there are at most, so that few are written after each part.
-use Rattle.std.proofs.Common.{ℕ, zero, suc, ◌+◌, ◌*◌, ◌≤◌, Bool, true, false, cond, ltb, List, [], ◌∷◌, length, take, arith, length-append, length-take}
-use lib.ListN.{length-map}
+use Rattle.std.proofs.Common.{ℕ, zero, suc, ◌+◌, ◌*◌, ◌≤◌, Bool, true, false, cond, ltb, List, [], ◌∷◌, length, arith, length-append}
 use Rattle.fairness.specs.Plans.{Plan}
 use Rattle.records.specs.declared.kind.Kind.{Kind}
 use Rattle.records.specs.Wire.{word}
 use Rattle.tasks.specs.declared.table.TaskTable.{TaskTable}
-use Rattle.tasks.specs.Rows.{row_of}
 use Rattle.tasks.specs.Table.{rows}
 use Rattle.order_writer.specs.declared.extent.Extent.{Extent}
 use Rattle.order_writer.specs.Writing.{Continued, Few, nothing}

@@ -1,5 +1,5 @@
 -- A file whose sizes are refused is refused with the same fault in reading: both put the head to the same tests, in the same order.
-use Rattle.std.proofs.Common.{◌≡◌, ℕ, suc, ◌+◌, List, [], length, Ok, Err, Result, ap, subst}
+use Rattle.std.proofs.Common.{◌≡◌, ℕ, suc, ◌+◌, [], length, Ok, Err, Result, ap, subst}
 use Rattle.board.specs.declared.fault.Fault.{Fault}
 use Rattle.board.specs.declared.fault.Refusal.{Refusal}
 use Rattle.board.specs.Meaning.{Meaning, cleared}

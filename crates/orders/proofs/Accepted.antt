@@ -3,7 +3,6 @@ use Rattle.std.proofs.Common.{◌≡◌, ℕ, ◌+◌, List, Ok, Err, Result, sy
 use Rattle.board.specs.declared.fault.Fault.{Fault}
 use Rattle.board.specs.declared.fault.Refusal.{Refusal}
 use Rattle.board.specs.Refusals.{fault_at}
-use Rattle.tasks.specs.Table.{unless_refused}
 use Rattle.records.specs.declared.kind.Kind.{Kind}
 use Rattle.records.specs.Cuts.{Cut}
 use Rattle.sections.specs.declared.state.Section.{Section}

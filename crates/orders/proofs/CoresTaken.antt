@@ -13,7 +13,7 @@ use Rattle.records.specs.Wire.{word}
 use Rattle.sections.specs.declared.letter.Sharing.{Sharing}
 use Rattle.sections.specs.declared.letter.Sharing.TheVariants.{Even, Weighted, ByNeed}
 use Rattle.sections.specs.declared.state.Section.{Section}
-use Rattle.sections.specs.declared.state.Section.TheVariants.{Head, Cores, Tasks}
+use Rattle.sections.specs.declared.state.Section.TheVariants.{Cores, Tasks}
 use Rattle.sections.specs.declared.state.Reader.{Reader}
 use Rattle.sections.specs.Letters.{letter_of, head_test}
 use Rattle.sections.specs.Turns.{start, head_fits, accepted, unless_refused, head_next, core_fits, core_told, core_next, section_at}

@@ -1,5 +1,5 @@
 -- Numbers in a script: decimal digits, up to 65,535.
-use Rattle.std.specs.Prelude.{ℕ, ◌+◌, ◌-◌, ◌*◌, cond, ◌&&◌, ◌||◌, List, [], ◌∷◌, Some, None, fold, Option, nat_lt}
+use Rattle.std.specs.Prelude.{ℕ, ◌+◌, ◌-◌, ◌*◌, cond, ◌||◌, List, [], ◌∷◌, Some, None, fold, Option, nat_lt}
 
 -- the number with one more digit behind it, unless that is no digit or the number grows too large
 abbrev pub with_digit : Option ℕ → ℕ → Option ℕ

@@ -1,9 +1,8 @@
-use Rattle.std.proofs.Common.{◌≡◌, ℕ, ◌<◌, Bool, true, ◌⊎◌, sym, refl, ap, ◌∙◌, subst, inl, inr, arith}
+use Rattle.std.proofs.Common.{◌≡◌, Bool, true, sym, ap, ◌∙◌, subst, inl, inr, arith}
 use Rattle.std.proofs.lemmas.List.Sums.{fold_more}
 use Rattle.std.proofs.lemmas.Bool.{cases_lt}
-use Rattle.calls.specs.declared.Call.{Call}
 use Rattle.calls.specs.declared.Call.TheVariants.{SetNeed}
-use Rattle.calls.specs.Turns.{call_at, in_turn, turned, working_at, InTurn}
+use Rattle.calls.specs.Turns.{call_at, in_turn, turned, InTurn}
 use Rattle.calls.proofs.first_out_of_turn.Goals as goal
 
 pub loop-place-preserved : goal.loop-place-preserved

@@ -1,5 +1,5 @@
 use Rattle.std.proofs.Common.{arith}
-use Rattle.search.proofs.Founds.{nothing-none, nothing-one, nothing-on, nothing-less, route-on}
+use Rattle.search.proofs.Founds.{nothing-none, nothing-on, nothing-less, route-on}
 use Rattle.search.proofs.route_among.Goals as goal
 
 pub loop-gainer-init : goal.loop-gainer-init

@@ -1,4 +1,4 @@
-use Rattle.std.proofs.Common.{◌≡◌, sym, ap, arith}
+use Rattle.std.proofs.Common.{sym, ap, arith}
 use Rattle.board.specs.Meaning.{Meaning}
 use Rattle.board.specs.Outcomes.{answered}
 use Rattle.board.proofs.Changes.{done-need}

@@ -1,9 +1,8 @@
 -- Slots that no longer fit are taken away, task by task.
-use Rattle.std.proofs.Common.{◌≡◌, ℕ, ◌+◌, ◌-◌, ◌<◌, ◌≤◌, ◌⊎◌, sym, refl, ap, ◌∙◌, subst, inl, inr, arith}
+use Rattle.std.proofs.Common.{◌≡◌, ℕ, ◌+◌, ◌-◌, ◌<◌, ◌≤◌, sym, refl, ap, ◌∙◌, subst, inl, inr, arith}
 use Rattle.std.proofs.lemmas.Bool.{cases_lt, cases_eq}
-use Rattle.fairness.specs.Sums.{sum_to}
 use Rattle.fairness.proofs.Sums.{sum-eq, sum-zero}
-use Rattle.board.specs.Meaning.{Meaning, Sound, planned, SameOrder, with_held, given_at}
+use Rattle.board.specs.Meaning.{Meaning, Sound, SameOrder, with_held, given_at}
 use Rattle.board.specs.Outcomes.{after, set_held}
 use Rattle.board.proofs.Changes.{done-fewer, given-put, put-here, put-other-task}
 

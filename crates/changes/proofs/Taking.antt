@@ -1,10 +1,10 @@
 -- What is known of a change that a plan takes, and what it makes of the order.
-use Rattle.std.proofs.Common.{◌≡◌, ℕ, ◌<◌, ◌≤◌, min, Bool, true, false, cond, ◌&&◌, ◌||◌, eqb, ltb, leb, Ok, Err, Result, sym, refl, ap, ◌∙◌, subst, arith}
+use Rattle.std.proofs.Common.{◌≡◌, ℕ, ◌<◌, ◌≤◌, min, false, ◌&&◌, ◌||◌, eqb, ltb, leb, Ok, Err, Result, sym, refl, ap, ◌∙◌, subst, arith}
 use Rattle.std.proofs.lemmas.Bool.Decides.{nat_tests}
 use Rattle.std.proofs.lemmas.Bool.{cond_both, ltb-false}
 use Rattle.board.specs.declared.fault.Fault.{Fault}
 use Rattle.board.specs.Meaning.{Meaning, SameOrder, planned, given_at, pair_count, with_need, with_held, with_capacity}
-use Rattle.board.specs.Outcomes.{Outcome, done, refused, answered, after, set_need, set_capacity}
+use Rattle.board.specs.Outcomes.{Outcome, done, answered, after, set_need, set_capacity}
 use Rattle.board.proofs.Changes.{done-need, done-capacity, put-here, on-board-left, on-board-right}
 use Rattle.changes.specs.Changes.{plan_need, plan_capacity}
 

@@ -1,5 +1,5 @@
 -- A plan stands after every line of a script.
-use Rattle.std.proofs.Common.{◌≡◌, Bool, true, false, sym, subst}
+use Rattle.std.proofs.Common.{Bool, true, false, sym, subst}
 use Rattle.fairness.specs.Laws.{Comparison}
 use Rattle.board.specs.Meaning.{Meaning}
 use Rattle.calls.specs.declared.Call.{Call}

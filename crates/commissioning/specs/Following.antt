@@ -4,8 +4,6 @@ use Rattle.fairness.specs.Laws.{Comparison}
 use Rattle.board.specs.Meaning.{Meaning, free_slots}
 use Rattle.routes.specs.declared.Step.{Step}
 use Rattle.judge.specs.Verdicts.{Judged}
-use Rattle.calls.specs.declared.Call.{Call}
-use Rattle.plan.specs.declared.runs.Answer.{Answer}
 use Rattle.plan.specs.declared.runs.Answer.TheVariants.{Taken, Refused, OutOfTurn}
 use Rattle.plan.specs.Plans.{Totals}
 use Rattle.plan.specs.Attempts.{Attempted}

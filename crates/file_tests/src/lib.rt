@@ -1,7 +1,6 @@
 // Order files put to the reader: each refusal with its place, each letter, the smallest and the largest order.
 #![tactic(auto)]
 
-
 #[cfg(test)]
 mod tests;
 

@@ -1,17 +1,15 @@
 -- A run grows call by call.
-use Rattle.std.proofs.Common.{◌≡◌, ℕ, ◌+◌, ◌<◌, ◌≤◌, Bool, true, false, cond, ◌&&◌, ◌||◌, eqb, ltb, leb, ◌⊎◌, List, [], ◌∷◌, length, get_or, take, set, fold, Result, sym, refl, ap, ◌∙◌, subst, inl, inr, arith, length-set, get_or-set_other, get_or-set_same}
+use Rattle.std.proofs.Common.{◌≡◌, ℕ, ◌+◌, ◌<◌, ◌≤◌, Bool, true, false, cond, ◌&&◌, ◌||◌, eqb, ltb, leb, List, [], ◌∷◌, length, take, set, fold, sym, refl, ap, ◌∙◌, subst, inl, inr, arith, length-set, get_or-set_other, get_or-set_same}
 use Rattle.std.proofs.lemmas.List.Sums.{fold_more}
-use Rattle.std.proofs.lemmas.Bool.{cases_lt, cond-true, cond-false, le-leb, lt-leb, cond_both}
+use Rattle.std.proofs.lemmas.Bool.{cases_lt, cond-true, cond-false, le-leb, lt-leb}
 use Rattle.fairness.specs.Plans.{Plan}
 use Rattle.fairness.specs.Laws.{Comparison}
-use Rattle.board.specs.declared.fault.Fault.{Fault}
 use Rattle.board.specs.Meaning.{Meaning, Sound, SameOrder, planned, pair_count}
 use Rattle.board.specs.Outcomes.{Outcome, done, refused, answered, after}
 use Rattle.levelling.specs.Levelled.{FairestOn}
 use Rattle.calls.specs.declared.Call.{Call}
 use Rattle.calls.specs.declared.Call.TheVariants.{SetNeed, SetCapacity, Release, Reopen}
 use Rattle.plan.specs.declared.runs.Note.{Note}
-use Rattle.changes.specs.Changes.{plan_need, plan_capacity}
 use Rattle.plan.specs.Plans.{Totals}
 use Rattle.calls.specs.Turns.{call_at}
 use Rattle.plan.specs.Runs.{RanTo, NotesPast, outcome_of, called, present_at, board_at, note_at}

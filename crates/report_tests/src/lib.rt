@@ -1,7 +1,6 @@
 // Order files put to the report: what it prints for each letter, for a refusal, and for the smallest and the largest order.
 #![tactic(auto)]
 
-
 #[cfg(test)]
 mod tests;
 

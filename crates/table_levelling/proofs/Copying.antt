@@ -1,9 +1,8 @@
 -- Each step of copying is accepted, and what it comes to.
-use Rattle.std.proofs.Common.{◌≡◌, ℕ, zero, suc, ◌+◌, ◌*◌, ◌<◌, ◌≤◌, min, cond, eqb, sym, refl, ap, ◌∙◌, subst, arith}
-use Rattle.fairness.specs.Sums.{sum_to}
+use Rattle.std.proofs.Common.{◌≡◌, ℕ, ◌+◌, ◌*◌, ◌<◌, ◌≤◌, min, sym, refl, ap, ◌∙◌, subst, arith}
 use Rattle.fairness.specs.Plans.{Plan, given}
-use Rattle.fairness.proofs.Sums.{sum-le, sum_lt, sum-zero}
-use Rattle.board.specs.Meaning.{Meaning, Sound, planned, given_at, pair_count, needed, put, with_held, with_need, with_capacity, most_slots}
+use Rattle.fairness.proofs.Sums.{sum-le, sum-zero}
+use Rattle.board.specs.Meaning.{Meaning, Sound, planned, given_at, put, with_held}
 use Rattle.board.specs.Outcomes.{done, after, set_need, set_held, set_capacity}
 use Rattle.board.proofs.Changes.{done-capacity, done-need, done_held, done-fewer, given-put}
 use Rattle.table_board.proofs.Pairs.{pairs_below}

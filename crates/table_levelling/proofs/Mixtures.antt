@@ -1,11 +1,11 @@
 -- Laws of plans that are new in front and old behind.
-use Rattle.std.proofs.Common.{◌≡◌, ℕ, ◌+◌, ◌<◌, ◌≤◌, min, true, false, cond, ◌&&◌, eqb, ltb, ◌⊎◌, inl, inr, arith}
+use Rattle.std.proofs.Common.{◌≡◌, ℕ, ◌+◌, ◌≤◌, cond, eqb, inl, inr, arith}
 use mathlib.Core.Path.{fun_ext}
 use Rattle.std.proofs.lemmas.Bool.Decides.{nat_tests}
 use Rattle.std.proofs.lemmas.Bool.{cases_lt, cases_eq}
 use Rattle.fairness.specs.Plans.{Plan}
 use Rattle.board.specs.Meaning.{put}
-use Rattle.table_levelling.specs.Copies.{tasks_to, row_to, capacities_to, lesser}
+use Rattle.table_levelling.specs.Copies.{tasks_to, row_to, capacities_to}
 
 pub row-start : (new old : Plan) (task : ℕ) → row_to new old task 0 ≡ old
 row-start new old task = fun_ext (λ t. fun_ext (λ c. grind (arith, nat_tests)))

@@ -1,7 +1,7 @@
 -- How an order and a plan go from one board to another: task by task, and core by core within a task.
 use Rattle.std.specs.Prelude.{◌≡◌, ℕ, ◌*◌, ◌<◌, ◌≤◌, min, cond, ◌&&◌, ◌==◌, nat_lt}
 use Rattle.fairness.specs.Plans.{Plan, given}
-use Rattle.board.specs.Meaning.{Meaning, most_slots, planned}
+use Rattle.board.specs.Meaning.{Meaning, most_slots}
 
 -- the tasks below the bound are as in the new plan, and the others as in the old one
 abbrev pub tasks_to : Plan → Plan → ℕ → Plan

@@ -1,4 +1,3 @@
-use Rattle.std.proofs.Common.{◌≡◌}
 use Rattle.board.specs.Meaning.{Meaning, SameOrder, with_capacity}
 use Rattle.board.proofs.Going.{went_on}
 use Rattle.changes.proofs.Taking.{capacity-taken, capacity-goes, order-on}

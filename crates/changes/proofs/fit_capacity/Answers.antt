@@ -1,4 +1,4 @@
-use Rattle.std.proofs.Common.{◌≡◌, ◌-◌, ◌<◌, ◌≤◌, refl, ap, ◌∙◌, arith}
+use Rattle.std.proofs.Common.{◌≡◌, ◌-◌, ◌<◌, refl, ap, ◌∙◌, arith}
 use Rattle.board.specs.Meaning.{Meaning}
 use Rattle.board.proofs.Going.{went-nowhere, went_on}
 use Rattle.changes.proofs.Fitting.{fitting-start, fitting-more, fitting-end, order-held}

@@ -1,5 +1,4 @@
-use Rattle.std.proofs.Common.{◌≡◌}
-use Rattle.board.specs.Meaning.{Meaning, SameOrder}
+use Rattle.board.specs.Meaning.{SameOrder}
 use Rattle.board.specs.Boards.{Went}
 use Rattle.changes.proofs.Fitting.{Fitting}
 use Rattle.changes.proofs.fit_capacity.Given as goal

@@ -1,5 +1,4 @@
-use Rattle.std.proofs.Common.{◌≡◌, sym, refl, ◌∙◌, arith}
-use Rattle.fairness.specs.Laws.{Comparison}
+use Rattle.std.proofs.Common.{sym, ◌∙◌}
 use Rattle.board.specs.Meaning.{Meaning, with_capacity}
 use Rattle.changes.specs.Changes.{plan_capacity}
 use Rattle.changes.proofs.Taking.{capacity-taken}

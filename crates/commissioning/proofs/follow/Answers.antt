@@ -1,4 +1,4 @@
-use Rattle.std.proofs.Common.{◌≡◌, sym, subst, rules}
+use Rattle.std.proofs.Common.{sym, subst, rules}
 use Rattle.changes.specs.Standing.{Standing}
 use Rattle.plan.specs.States.{lent_of, rule_of, is_working}
 use Rattle.commissioning.proofs.Standing.{attempt-stands}

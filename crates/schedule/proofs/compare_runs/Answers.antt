@@ -1,4 +1,3 @@
-use Rattle.std.proofs.Common.{◌≡◌, refl}
 use Rattle.schedule.proofs.Ends.{played, ends-fairest, fairest-alike}
 use Rattle.schedule.proofs.compare_runs.Goals as goal
 

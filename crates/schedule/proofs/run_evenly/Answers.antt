@@ -1,4 +1,3 @@
-use Rattle.std.proofs.Common.{◌≡◌, refl}
 use Rattle.fairness.specs.Even.{even}
 use Rattle.schedule.proofs.Ends.{played, ran-evenly}
 use Rattle.schedule.proofs.run_evenly.Goals as goal

@@ -1,7 +1,7 @@
 use Rattle.std.proofs.Common.{◌≡◌}
-use Rattle.board.specs.Meaning.{Meaning, planned}
+use Rattle.board.specs.Meaning.{Meaning}
 use Rattle.board.specs.Boards.{Went}
-use Rattle.table_levelling.specs.Copies.{capacities_to, row_to, tasks_to, lesser, ordered}
+use Rattle.table_levelling.specs.Copies.{tasks_to, ordered}
 use Rattle.table_levelling.proofs.copy_needs.Given as goal
 
 abbrev pub invariant-loop-task : goal.invariant-loop-task

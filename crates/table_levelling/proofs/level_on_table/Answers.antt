@@ -1,4 +1,4 @@
-use Rattle.std.proofs.Common.{◌≡◌, ℕ, ◌*◌, refl, ap, ◌∙◌}
+use Rattle.std.proofs.Common.{◌≡◌, ℕ}
 use lib.ListN.{length-replicate}
 use Rattle.board.specs.Meaning.{Meaning, Sound}
 use Rattle.table_board.specs.Table.{table_of}

@@ -1,7 +1,7 @@
 use Rattle.std.proofs.Common.{◌≡◌}
 use Rattle.board.specs.Meaning.{Meaning, planned}
 use Rattle.board.specs.Boards.{Went}
-use Rattle.table_levelling.specs.Copies.{capacities_to, row_to, tasks_to, lesser, ordered}
+use Rattle.table_levelling.specs.Copies.{row_to, lesser}
 use Rattle.table_levelling.proofs.lower_task.Given as goal
 
 abbrev pub invariant-loop-core : goal.invariant-loop-core

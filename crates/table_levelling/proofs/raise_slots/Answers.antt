@@ -1,4 +1,4 @@
-use Rattle.std.proofs.Common.{◌≡◌, ℕ, ◌<◌, sym, ap, ◌∙◌, arith}
+use Rattle.std.proofs.Common.{◌≡◌, ap, arith}
 use Rattle.board.specs.Meaning.{Meaning}
 use Rattle.table_levelling.specs.Copies.{tasks_to}
 use Rattle.board.proofs.Going.{went-nowhere, went_on}

@@ -1,4 +1,4 @@
-use Rattle.std.proofs.Common.{◌≡◌, ◌<◌, sym, ◌∙◌, arith}
+use Rattle.std.proofs.Common.{arith}
 use Rattle.board.specs.Meaning.{Meaning}
 use Rattle.board.proofs.Going.{went-nowhere, went_on}
 use Rattle.table_levelling.proofs.Copying.{row-none, raise-more, row-whole}

@@ -1,5 +1,4 @@
 use Rattle.std.proofs.Common.{◌≡◌}
-use Rattle.board.specs.Boards.{Good}
 use Rattle.changes.specs.Standing.{Standing}
 use Rattle.calls.specs.Turns.{working_at}
 use Rattle.plan.specs.Runs.{RanTo, NotesPast}

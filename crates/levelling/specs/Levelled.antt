@@ -40,7 +40,7 @@ pub record Stands (compare : Comparison) (m n : Meaning) : Type 0 where
   pub settled : Settled compare m.tasks m.cores m.need m.capacity m.held
 
 -- what one improvement comes to: someone gained, or nobody can
-abbrev pub Improved : Comparison → Meaning → Meaning → Option Found → Type 0
+abbrev pub Improved : {A : Type 0} → Comparison → Meaning → Meaning → Option A → Type 0
 Improved compare m n r = MatchOption r (Stands compare m n) (λ _. Better compare m n)
 
 -- and the steps by which it was made

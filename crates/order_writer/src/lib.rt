@@ -7,7 +7,7 @@ ghost use Rattle.records.specs.declared.kind.Kind.TheVariants.{Core, Task, End};
 ghost use Rattle.records.specs.Wire.{word, number_of};
 ghost use Rattle.tasks.specs.Table.{rows};
 ghost use Rattle.orders.specs.Encoding.{line, each, head_line, core_line, task_line, pair_line, task_pairs, pair_lines, order_lines, file_of};
-ghost use Rattle.order_writer.specs.Writing.{Written, Put, Continued, Few, nothing, amounts_of};
+ghost use Rattle.order_writer.specs.Writing.{write_why, told, left, Put, Continued, Few, nothing, amounts_of};
 
 use board::Board;
 use board::fault::{Fault, Refusal};
@@ -27,7 +27,8 @@ pub fn write<B: Board>(
     out: &mut [u8],
 ) -> Result<usize, Fault>
     requires { Good B.meaning B.ready board.now }
-    ensures { Written letter (rows tasks.now) (B.meaning board.now) out.old out.new result }
+    ensures told { result ≡ told (write_why letter (rows tasks.now) (B.meaning board.now) (length out.old)) (length (file_of letter (rows tasks.now) (B.meaning board.now))) }
+    ensures left { out.new ≡ left (write_why letter (rows tasks.now) (B.meaning board.now) (length out.old)) (file_of letter (rows tasks.now) (B.meaning board.now)) out.old }
 {
     let Some(_) = sharing_of(letter) else {
         return Err(Refusal::ValueOutOfBounds.at(0));

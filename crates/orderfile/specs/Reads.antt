@@ -18,12 +18,15 @@ pub record Filled {S : Type 0} (meaning : S → Meaning) (ready : S → Type 0) 
   pub good : Good meaning ready b
   pub keeps : kept a b
 
--- the file was read onto the board a, which became b: the answer is the file's letter or its first fault, and board and table hold what the file says or are clear
-pub record Read {S : Type 0} (meaning : S → Meaning) (ready : S → Type 0) (kept : S → S → Type 0) (a b : S) (file : List ℕ) (rs : List Row) (r : Result ℕ Fault) : Type 0 where
-  pub told : r ≡ letter_of (read_of (meaning a) file)
-  pub left : meaning b ≡ board_of (meaning a) (read_of (meaning a) file)
-  pub listed : rs ≡ rows_of (read_of (meaning a) file)
-  -- it is accepted just where it is the encoding of an order that the board can hold, and then that order stands there
-  pub lawful : Lawful (meaning a) file (gave r (meaning b) rs)
+-- reading came to the outcome: the answer is its letter or its fault, board and table hold what the file says or are clear
+pub record Read {S : Type 0} (meaning : S → Meaning) (ready : S → Type 0) (kept : S → S → Type 0) (a b : S) (rs : List Row) (outcome : Outcome) (r : Result ℕ Fault) : Type 0 where
+  pub told : r ≡ letter_of outcome
+  pub left : meaning b ≡ board_of (meaning a) outcome
+  pub listed : rs ≡ rows_of outcome
   pub good : Good meaning ready b
   pub keeps : kept a b
+
+-- the file was read onto the board a, which became b; it is accepted just where it is the encoding of an order that the board can hold, and then that order stands there
+pub record LawfullyRead {S : Type 0} (meaning : S → Meaning) (ready : S → Type 0) (kept : S → S → Type 0) (a b : S) (file : List ℕ) (rs : List Row) (r : Result ℕ Fault) : Type 0 where
+  pub read : Read meaning ready kept a b rs (read_of (meaning a) file) r
+  pub lawful : Lawful (meaning a) file (gave r (meaning b) rs)

@@ -9,8 +9,9 @@ ghost use Rattle.sections.specs.Lines.{said_by};
 ghost use Rattle.orderfile.specs.Sizes.{sizes_of, SizesRefusedAsRead};
 ghost use Rattle.orders.specs.Steps.{reading};
 ghost use Rattle.orderfile.specs.Steps.{Applied, Took};
-ghost use Rattle.orders.specs.Reads.{order_of, run_from};
-ghost use Rattle.orderfile.specs.Reads.{Filled, Read};
+ghost use Rattle.orders.specs.Reads.{order_of, run_from, read_of};
+ghost use Rattle.orders.specs.Laws.{Lawful};
+ghost use Rattle.orderfile.specs.Reads.{Filled, Read, gave};
 
 use board::Board;
 use board::fault::{Fault, Refusal};
@@ -45,7 +46,9 @@ pub fn sizes_are_refused_as_read() -> u8
 // Fills the board and the task table with what the file says, and answers its letter; refused, both are clear.
 pub fn read<B: Board>(file: &[u8], board: &mut B, tasks: &mut TaskTable) -> Result<u8, Fault>
     requires { Good B.meaning B.ready board.old }
-    ensures { Read B.meaning B.ready B.kept board.old board.new file.now (rows tasks.new) result }
+    ensures read { Read B.meaning B.ready B.kept board.old board.new (rows tasks.new) (read_of (B.meaning board.old) file.now) result }
+    // It is accepted just where it is the encoding of an order that the board can hold, and then that order stands there.
+    ensures lawful { Lawful (B.meaning board.old) file.now (gave result (B.meaning board.new) (rows tasks.new)) }
 {
     board.clear();
     tasks.clear();

@@ -55,13 +55,14 @@ plan-shown compare m now rows totals text free fit fine few all order fairest li
     let P : Meaning → Type 0 = λ z. FairestOn compare z in
     let Q : Meaning → Type 0 = λ z. Totals z totals in
     let shown : Meaning = planned m now.held in
+    let printed : text ≡ report_lines rows totals (free_slots shown) = reads ∙ ap (report_lines rows totals) (freed ∙ ap free_slots order) in
     record {
       held = now.held;
       fairest = subst P order fairest;
       totals = totals;
       listed = subst Q order listed;
-      reads = reads ∙ (ap (report_lines rows totals) (freed ∙ ap free_slots order)
-          ∙ ap (λ z. share_lines rows totals z (free_slots shown)) (ap (λ n. slots_of totals n (free_slots shown)) all ∙ slots-of-all compare shown totals few (subst P order fairest) (subst Q order listed)));
+      reads = printed;
+      shares = printed ∙ ap (λ z. share_lines rows totals z (free_slots shown)) (ap (λ n. slots_of totals n (free_slots shown)) all ∙ slots-of-all compare shown totals few (subst P order fairest) (subst Q order listed));
       aligned = lines-aligned compare shown rows totals (subst Sound order fit) (subst P order fairest) fine all (subst Q order listed);
     }
 

@@ -15,7 +15,7 @@ use Rattle.orderfile.specs.Sizes.{sizes_of}
 use Rattle.orders.specs.Reads.{Outcome, read_of}
 use Rattle.levelling.specs.Levelled.{FairestOn}
 use Rattle.plan.specs.Plans.{Totals}
-use Rattle.summary.specs.Lines.{task_line, free_line, share_lines, refusal_line}
+use Rattle.summary.specs.Lines.{task_line, free_line, report_lines, share_lines, refusal_line}
 
 -- the pair board that is made for n tasks and m cores in 1,024 entries
 abbrev pub board_for : ℕ → ℕ → Meaning
@@ -44,8 +44,9 @@ pub record Shown (compare : Comparison) (m : Meaning) (rows : List Row) (text : 
   pub fairest : FairestOn compare (planned m held)
   pub totals : List ℕ
   pub listed : Totals (planned m held) totals
+  pub reads : text ≡ report_lines rows totals (free_slots (planned m held))
   -- shares are of the sum of all capacities
-  pub reads : text ≡ share_lines rows totals (capacities m) (free_slots (planned m held))
+  pub shares : text ≡ share_lines rows totals (capacities m) (free_slots (planned m held))
   pub aligned : Aligned rows totals (capacities m) (free_slots (planned m held))
 
 -- the same under the rule of the letter, with the weights of the task table

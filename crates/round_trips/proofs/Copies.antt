@@ -17,7 +17,7 @@ use Rattle.sections.specs.Letters.{sharing_of, letter_of}
 use Rattle.orders.specs.Encoding.{encode, file_of}
 use Rattle.orders.specs.Reads.{Order, Outcome, read_of, letter_of as outcome_letter, board_of, rows_of}
 use Rattle.orders.specs.Laws.{Known, Valid, encoding, Lawful, EncodingsRead}
-use Rattle.orderfile.specs.Reads.{Read, gave}
+use Rattle.orderfile.specs.Reads.{LawfullyRead, gave}
 use Rattle.order_writer.specs.Writing.{write_why, lettered, told, left}
 use Rattle.round_trips.specs.Trips.{room_for, Copied, Rewritten, CanHold, carried, Same, Carried}
 
@@ -86,13 +86,13 @@ copied-not : (file before : List ℕ) (r : Result ℕ Fault) (fault : Fault) (o 
 copied-not file before r fault (Ok order) e d = let z : ◌≡◌ {A = ℕ} 0 1 = cc in absurd (omega arith)
 copied-not file before r fault (Err why) e d = (d ∙ e, refl)
 
-pub not-copied : {S : Type 0} {meaning : S → Meaning} {ready : S → Type 0} {kept : S → S → Type 0} (a b : S) (file : List ℕ) (rs : List Row) (before : List ℕ) (answer r : Result ℕ Fault) (fault : Fault) → Read meaning ready kept a b file rs answer → answer ≡ Err fault → r ≡ Err fault → Rewritten meaning ready kept a b file rs before before r
+pub not-copied : {S : Type 0} {meaning : S → Meaning} {ready : S → Type 0} {kept : S → S → Type 0} (a b : S) (file : List ℕ) (rs : List Row) (before : List ℕ) (answer r : Result ℕ Fault) (fault : Fault) → LawfullyRead meaning ready kept a b file rs answer → answer ≡ Err fault → r ≡ Err fault → Rewritten meaning ready kept a b file rs before before r
 not-copied {meaning = meaning} a b file rs before answer r fault read e d = record {
-  filled = read.left;
-  listed = read.listed;
-  copied = copied-not file before r fault (read_of (meaning a) file) (sym e ∙ read.told) d;
-  good = read.good;
-  keeps = read.keeps;
+  filled = read.read.left;
+  listed = read.read.listed;
+  copied = copied-not file before r fault (read_of (meaning a) file) (sym e ∙ read.read.told) d;
+  good = read.read.good;
+  keeps = read.read.keeps;
 }
 
 -- a file that was accepted is written again, where the output has room
@@ -100,18 +100,18 @@ copied-so : (file before after : List ℕ) (r : Result ℕ Fault) (letter : ℕ)
 copied-so file before after r letter (Ok order) e d f = (d, f)
 copied-so file before after r letter (Err fault) e d f = let z : ◌≡◌ {A = ℕ} 0 1 = cc in absurd (omega arith)
 
-pub so-copied : {S : Type 0} {meaning : S → Meaning} {ready : S → Type 0} {kept : S → S → Type 0} (a b : S) (file : List ℕ) (rs : List Row) (before after : List ℕ) (answer r : Result ℕ Fault) (letter : ℕ) → Read meaning ready kept a b file rs answer → answer ≡ Ok letter → r ≡ told (write_why letter rs (meaning b) (length before)) (length (file_of letter rs (meaning b))) → after ≡ left (write_why letter rs (meaning b) (length before)) (file_of letter rs (meaning b)) before → Rewritten meaning ready kept a b file rs before after r
+pub so-copied : {S : Type 0} {meaning : S → Meaning} {ready : S → Type 0} {kept : S → S → Type 0} (a b : S) (file : List ℕ) (rs : List Row) (before after : List ℕ) (answer r : Result ℕ Fault) (letter : ℕ) → LawfullyRead meaning ready kept a b file rs answer → answer ≡ Ok letter → r ≡ told (write_why letter rs (meaning b) (length before)) (length (file_of letter rs (meaning b))) → after ≡ left (write_why letter rs (meaning b) (length before)) (file_of letter rs (meaning b)) before → Rewritten meaning ready kept a b file rs before after r
 so-copied {meaning = meaning} a b file rs before after answer r letter read e d f =
     let order : Order = record { letter = letter; board = meaning b; rows = rs } in
     let law : Lawful (meaning a) file (Ok order) = subst (λ x. Lawful (meaning a) file (gave x (meaning b) rs)) e read.lawful in
     let same = sym law.1 in
     let why : write_why letter rs (meaning b) (length before) ≡ room_for file before = writes-valid (meaning a) order law.0 (length before) ∙ ap (λ x. room_for x before) same in
     record {
-      filled = read.left;
-      listed = read.listed;
-      copied = copied-so file before after r letter (read_of (meaning a) file) (sym e ∙ read.told) (d ∙ (λ i. told (why i) (length (same i)))) (f ∙ (λ i. left (why i) (same i) before));
-      good = read.good;
-      keeps = read.keeps;
+      filled = read.read.left;
+      listed = read.read.listed;
+      copied = copied-so file before after r letter (read_of (meaning a) file) (sym e ∙ read.read.told) (d ∙ (λ i. told (why i) (length (same i)))) (f ∙ (λ i. left (why i) (same i) before));
+      good = read.read.good;
+      keeps = read.read.keeps;
     }
 
 -- what writing has tested
@@ -132,24 +132,24 @@ writable letter rs first room e =
     record { known = passed-known letter later e; some = grind (arith, nat_tests); listed = grind (arith, nat_tests) }
 
 -- what a board can hold is there once it was read
-pub same-there : {S : Type 0} {meaning : S → Meaning} {ready : S → Type 0} {kept : S → S → Type 0} → EncodingsRead → (first : Meaning) (letter : ℕ) (rs : List Row) (a b : S) (second-rs : List Row) (r : Result ℕ Fault) → Sound first → Sound (meaning a) → sound rs ≡ true → Writable letter rs first → Read meaning ready kept a b (file_of letter rs first) second-rs r → CanHold (meaning a) first → Same first (meaning a) (meaning b) letter rs second-rs r
+pub same-there : {S : Type 0} {meaning : S → Meaning} {ready : S → Type 0} {kept : S → S → Type 0} → EncodingsRead → (first : Meaning) (letter : ℕ) (rs : List Row) (a b : S) (second-rs : List Row) (r : Result ℕ Fault) → Sound first → Sound (meaning a) → sound rs ≡ true → Writable letter rs first → LawfullyRead meaning ready kept a b (file_of letter rs first) second-rs r → CanHold (meaning a) first → Same first (meaning a) (meaning b) letter rs second-rs r
 same-there {meaning = meaning} law first letter rs a b second-rs r here there fine can read holds =
     let order : Order = record { letter = letter; board = carried (meaning a) first; rows = rs } in
     let valid = carried-valid (meaning a) first there here holds letter rs can.known can.some can.listed fine in
     let e : read_of (meaning a) (file_of letter rs first) ≡ Ok order = ap (read_of (meaning a)) (sym (carried-file (meaning a) first holds letter rs)) ∙ law (meaning a) order valid in
-    record { told = read.told ∙ ap outcome_letter e; left = read.left ∙ ap (board_of (meaning a)) e; listed = read.listed ∙ ap rows_of e }
+    record { told = read.read.told ∙ ap outcome_letter e; left = read.read.left ∙ ap (board_of (meaning a)) e; listed = read.read.listed ∙ ap rows_of e }
 
 module _ {S : Type 0} (meaning : S → Meaning) (ready : S → Type 0) (kept : S → S → Type 0) (first : Meaning) (letter : ℕ) (rs : List Row) (a b : S) (table table-after : TaskTable) (before after : List ℕ) where
   pub not_written : (why : Option Refusal) (fault : Fault) (r : Result ℕ Fault) → told why (length (file_of letter rs first)) ≡ Err fault → r ≡ Err fault → after ≡ left why (file_of letter rs first) before → b ≡ a → table-after ≡ table → Carried meaning ready kept why first letter rs a b table table-after before after r
   not_written None fault r e d f g h = let z : ◌≡◌ {A = ℕ} 0 1 = cc in absurd (omega arith)
   not_written (Some why) fault r e d f g h = (d ∙ sym e, g, h, f)
 
-  pub so-written : EncodingsRead → (why : Option Refusal) → write_why letter rs first (length before) ≡ why → (n : ℕ) (r : Result ℕ Fault) → told why (length (file_of letter rs first)) ≡ Ok n → after ≡ left why (file_of letter rs first) before → Sound first → Sound (meaning a) → sound rs ≡ true → Read meaning ready kept a b (take (n - 0) (drop 0 after)) (rows table-after) r → Carried meaning ready kept why first letter rs a b table table-after before after r
+  pub so-written : EncodingsRead → (why : Option Refusal) → write_why letter rs first (length before) ≡ why → (n : ℕ) (r : Result ℕ Fault) → told why (length (file_of letter rs first)) ≡ Ok n → after ≡ left why (file_of letter rs first) before → Sound first → Sound (meaning a) → sound rs ≡ true → LawfullyRead meaning ready kept a b (take (n - 0) (drop 0 after)) (rows table-after) r → Carried meaning ready kept why first letter rs a b table table-after before after r
   so-written law (Some why) q n r e f here there fine read = let z : ◌≡◌ {A = ℕ} 0 1 = cc in absurd (omega arith)
   so-written law None q n r e f here there fine read =
       let long : length (file_of letter rs first) ≡ n = cc in
       let part : take (n - 0) (drop 0 after) ≡ file_of letter rs first = ap (λ k. take k after) (omega arith) ∙ ap (take n) f ∙ take_at (file_of letter rs first) (drop (length (file_of letter rs first)) before) n long in
-      let there-read = subst (λ x. Read meaning ready kept a b x (rows table-after) r) part read in
+      let there-read = subst (λ x. LawfullyRead meaning ready kept a b x (rows table-after) r) part read in
       record {
         written = f;
         read = there-read;

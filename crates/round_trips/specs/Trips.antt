@@ -11,7 +11,7 @@ use Rattle.tasks.specs.Rows.{Row}
 use Rattle.tasks.specs.Table.{rows}
 use Rattle.orders.specs.Encoding.{file_of}
 use Rattle.orders.specs.Reads.{Outcome, read_of, board_of, rows_of}
-use Rattle.orderfile.specs.Reads.{Read}
+use Rattle.orderfile.specs.Reads.{LawfullyRead}
 use Rattle.order_writer.specs.Writing.{told, left, fronted}
 
 -- an output that is too short for the file takes nothing of it
@@ -60,7 +60,7 @@ pub record Same (first second-before second-after : Meaning) (letter : ℕ) (rs 
 -- what stands on the first board and in its table was written, and read from there onto the second board a, which became b, with its table
 pub record Delivered {S : Type 0} (meaning : S → Meaning) (ready : S → Type 0) (kept : S → S → Type 0) (first : Meaning) (letter : ℕ) (rs : List Row) (a b : S) (second-rs : List Row) (before after : List ℕ) (r : Result ℕ Fault) : Type 0 where
   pub written : after ≡ fronted (file_of letter rs first) before
-  pub read : Read meaning ready kept a b (file_of letter rs first) second-rs r
+  pub read : LawfullyRead meaning ready kept a b (file_of letter rs first) second-rs r
   pub same : CanHold (meaning a) first → Same first (meaning a) (meaning b) letter rs second-rs r
 
 -- refused in writing, nothing is touched

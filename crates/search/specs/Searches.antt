@@ -81,4 +81,8 @@ pub record InVain (compare : Comparison) (m : Meaning) (p : ℕ) (s : Search) : 
 
 -- what a search from task p comes to: nothing to gain once no slot is free, or the place of the task that should lose a slot
 abbrev pub Sought : Comparison → Meaning → ℕ → Search → Option ℕ → Type 0
-Sought compare m p s r = MatchOption r (NoneFreeOn m → InVain compare m p s) (Gain compare m p s)
+Sought compare m p s r = MatchOption r (NoneFreeOn m → SafeOn compare m p) (Gain compare m p s)
+
+-- and a search in vain speaks for others too
+abbrev pub Spoken : Comparison → Meaning → ℕ → Search → Option ℕ → Type 0
+Spoken compare m p s r = MatchOption r (NoneFreeOn m → InVain compare m p s) (λ _. Unit {0})

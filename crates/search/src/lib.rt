@@ -9,7 +9,7 @@ ghost use Rattle.search.specs.Chains.{Chain, Leads, RestSame};
 ghost use Rattle.search.specs.Founds.{Searched};
 ghost use Rattle.search.specs.Trails.{Linked, reached, entered, empty};
 ghost use Rattle.search.specs.Layers.{OpenersTo};
-ghost use Rattle.search.specs.Searches.{MayOpen, Opened, Complete, Spread, InVain, Sought};
+ghost use Rattle.search.specs.Searches.{MayOpen, Opened, Complete, Spread, InVain, Sought, Spoken};
 
 use board::{Board, MOST_CORES, MOST_TASKS};
 use fairness::{Rank, Share};
@@ -187,7 +187,8 @@ fn search_from<B: Board, R: Rule>(
 ) -> Option<usize>
     requires good { Good B.meaning B.ready board.now }
     requires gainer { gainer < (B.meaning board.now).tasks }
-    ensures { Sought (R.order rule.now) (B.meaning board.now) gainer search.new result }
+    ensures sought { Sought (R.order rule.now) (B.meaning board.now) gainer search.new result }
+    ensures spoken { Spoken (R.order rule.now) (B.meaning board.now) gainer search.new result }
 {
     *search = Search::new();
     search.reach(gainer, 0);

@@ -41,7 +41,7 @@ share_lines rows totals slots free = task_lines rows totals slots (length rows) 
 
 -- the whole report
 abbrev pub report_lines : List Row → List ℕ → ℕ → List ℕ
-report_lines rows totals free = share_lines rows totals (slots_of totals (length rows) free) free
+report_lines rows totals free = task_lines rows totals (slots_of totals (length rows) free) (length rows) ++ free_line free
 
 abbrev pub refusal_line : ℕ → ℕ → ℕ → List ℕ
 refusal_line number layer place =

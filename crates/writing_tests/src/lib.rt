@@ -1,7 +1,6 @@
 // Orders put to the writer, and to both round trips: each refusal, outputs that just fit, and boards that cannot hold an order.
 #![tactic(auto)]
 
-
 #[cfg(test)]
 mod tests;
 

@@ -11,7 +11,7 @@ pub returns-in-Ok-read : goal.returns-in-Ok-read
 returns-in-Ok-read c =
     let file = c.args.file.now in
     let old : Meaning = table_of c.in-Ok.board in
-    let read = c.in-Ok-read.ensures in
+    let read = c.in-Ok-read.ensures.read in
     let gave = order_is (read_of old file) old (table_of c.read.new.board) (rows c.read.new.tasks) c.in-Ok-read.letter read.told read.left read.listed in
     let P : Outcome → Type 0 = λ o. FilePlanned o c.args.out.now c.write_by_letter.new.out c.answer.result in
     subst P (sym (c.in-Ok.ensures.gives ∙ gave)) (record { wrote = c.write_by_letter.result; planned = c.write_by_letter.ensures; told = c.answer.ensures })

@@ -13,7 +13,7 @@ pub returns-in-Ok-show_by_letter : goal.returns-in-Ok-show_by_letter
 returns-in-Ok-show_by_letter c =
     let file = c.args.file.now in
     let old : Meaning = table_of c.in-Ok.board in
-    let read = c.in-Ok-read.ensures in
+    let read = c.in-Ok-read.ensures.read in
     let gave = order_is (read_of old file) old (table_of c.read.new.board) (rows c.read.new.tasks) c.in-Ok-read.letter read.told read.left read.listed in
     let P : Outcome → Type 0 = λ o. FileShown o c.args.out.now c.put_text.new.out c.answer.result in
     let Q : List ℕ → Type 0 = λ text. ShownBy c.in-Ok-read.letter (table_of c.read.new.board) (rows c.read.new.tasks) text in

@@ -13,12 +13,14 @@ returns-in-Ok g c =
     let filled = c.in-Ok.ensures in
     let e = filled.told ∙ (λ i. order_of (run_from (c.clear.ensures.left i) (c.clear-2.ensures i) c.args.file.now)) in
     record {
-      told = ap letter_of e;
-      left = ap (board_of m) e;
-      listed = ap rows_of e;
+      read = record {
+        told = ap letter_of e;
+        left = ap (board_of m) e;
+        listed = ap rows_of e;
+        good = filled.good;
+        keeps = b.keeping.onward c.args.board.now c.clear.new.self c.read_records.new.board c.clear.ensures.keeps filled.keeps;
+      };
       lawful = subst (Lawful m c.args.file.now) (sym e) (reading-lawful m c.args.file.now c.requires.sound (All-from_get_or Byte c.args.file.now 0 (λ i h. omega (arith, c.type_inv.file i))));
-      good = filled.good;
-      keeps = b.keeping.onward c.args.board.now c.clear.new.self c.read_records.new.board c.clear.ensures.keeps filled.keeps;
     }
 
 pub returns-in-Err : goal.returns-in-Err
@@ -30,10 +32,12 @@ returns-in-Err g c =
     let e = filled.told ∙ (λ i. order_of (run_from (c.clear.ensures.left i) (c.clear-2.ensures i) c.args.file.now)) in
     let keeps = b.keeping.onward c.args.board.now c.clear.new.self c.read_records.new.board c.clear.ensures.keeps filled.keeps in
     record {
-      told = ap letter_of e;
-      left = again.left ∙ filled.frame ∙ ap cleared c.clear.ensures.left ∙ ap (board_of m) e;
-      listed = c.clear-in-Err-2.ensures ∙ ap rows_of e;
+      read = record {
+        told = ap letter_of e;
+        left = again.left ∙ filled.frame ∙ ap cleared c.clear.ensures.left ∙ ap (board_of m) e;
+        listed = c.clear-in-Err-2.ensures ∙ ap rows_of e;
+        good = again.good;
+        keeps = b.keeping.onward c.args.board.now c.read_records.new.board c.clear-in-Err.new.self keeps again.keeps;
+      };
       lawful = subst (Lawful m c.args.file.now) (sym e) (reading-lawful m c.args.file.now c.requires.sound (All-from_get_or Byte c.args.file.now 0 (λ i h. omega (arith, c.type_inv.file i))));
-      good = again.good;
-      keeps = b.keeping.onward c.args.board.now c.read_records.new.board c.clear-in-Err.new.self keeps again.keeps;
     }

@@ -17,7 +17,7 @@ returns-in_ok-text-in-Ok-read c =
     let sized : Ok (c.in-Ok.field-0-0, c.in-Ok.n, c.in-Ok.m) ≡ sizes_of file = c.in-Ok.ensures in
     let outcome : outcome_of file ≡ read_of old file = outcome-is file (c.in-Ok.field-0-0, c.in-Ok.n, c.in-Ok.m) old _ sized (length-replicate {A = Entry} 1024 (record { task = 0; core = 0; need = 0; held = 0 })) c.make-board.ensures.means in
     let P : Outcome → Type 0 = λ o. Reported o false (vec_items c.in_ok-text-in-Ok-read.text) in
-    let read = c.in-Ok-read.ensures in
+    let read = c.in-Ok-read.ensures.read in
     subst P (sym outcome) (order-shown (read_of old file) old (pairs_of c.read.new.board) (rows c.read.new.tasks) c.in-Ok-read.letter (vec_items c.in_ok-text-in-Ok-read.text)
     read.told read.left read.listed c.in_ok-text-in-Ok-read.ensures)
 
@@ -28,5 +28,5 @@ returns-in-Err-read c =
     let sized : Ok (c.in-Ok.field-0-0, c.in-Ok.n, c.in-Ok.m) ≡ sizes_of file = c.in-Ok.ensures in
     let outcome : outcome_of file ≡ read_of old file = outcome-is file (c.in-Ok.field-0-0, c.in-Ok.n, c.in-Ok.m) old _ sized (length-replicate {A = Entry} 1024 (record { task = 0; core = 0; need = 0; held = 0 })) c.make-board.ensures.means in
     let P : Outcome → Type 0 = λ o. IfOk c.refuse-in-Err-read.result (λ report. Reported o report.refused (vec_items report.text)) in
-    let read = c.in-Err-read.ensures in
+    let read = c.in-Err-read.ensures.read in
     subst P (sym (outcome ∙ outcome-fault (read_of old file) c.in-Err-read.fault read.told)) c.refuse-in-Err-read.ensures

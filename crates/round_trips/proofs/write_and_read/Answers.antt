@@ -26,7 +26,7 @@ returns g c =
     let rs = rows c.args.tasks.now in
     let why = write_why c.args.letter rs first (length c.args.out.now) in
     record {
-      went = record { good = c.read.ensures.good; keeps = c.read.ensures.keeps };
+      went = record { good = c.read.ensures.read.good; keeps = c.read.ensures.read.keeps };
       carried = so-written g.B.Board.meaning g.B.Board.ready g.B.Board.kept first c.args.letter rs c.args.second.now c.read.new.board c.args.second_tasks.now c.read.new.tasks c.args.out.now c.write.new.out encodings-read why refl c.in_ok-length.length c.read.result
-          (sym c.write.ensures.told ∙ c.in_ok-length.was) c.write.ensures.left c.requires.first.sound c.requires.second.sound c.args.tasks.now.sound c.read.ensures;
+          (sym c.write.ensures.told ∙ c.in_ok-length.was) c.write.ensures.left c.requires.first.sound c.requires.second.sound c.args.tasks.now.sound (record { read = c.read.ensures.read; lawful = c.read.ensures.lawful });
     }

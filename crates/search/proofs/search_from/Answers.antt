@@ -26,18 +26,22 @@ pub returns : goal.returns
 returns g c =
     let m : Meaning = g.B.Board.meaning c.args.board.now in
     let compare : Comparison = g.R.Rule.order c.args.rule.now in
-    trying-all compare m c.args.gainer c.requires.good.sound c.requires.gainer (g.R.Rule.lawful c.args.rule.now) c.loop-head.search c.loop-head.head c.loop-head.invariant c.loop-head-test.false
+    let vain = trying-all compare m c.args.gainer c.requires.good.sound c.requires.gainer (g.R.Rule.lawful c.args.rule.now) c.loop-head.search c.loop-head.head c.loop-head.invariant c.loop-head-test.false in
+    record { sought = λ none. (vain none).own; spoken = vain }
 
 pub returns-then-should_gain : goal.returns-then-should_gain
 returns-then-should_gain g c =
     let m : Meaning = g.B.Board.meaning c.args.board.now in
     let h = c.loop-head.invariant in
     record {
-      trail = h.complete.trail;
-      first = h.first;
-      layered = h.complete.layered;
-      gathered = h.complete.gathered;
-      early = h.early;
-      here = c.loop-head-test.true;
-      gains = by-shares (g.R.Rule.order c.args.rule.now) m c.args.gainer (task_at c.loop-head.search c.loop-head.head) _ _ true c.share_of-share.ensures.is c.share_of.ensures.is c.if-should_gain.ensures;
+      sought = record {
+        trail = h.complete.trail;
+        first = h.first;
+        layered = h.complete.layered;
+        gathered = h.complete.gathered;
+        early = h.early;
+        here = c.loop-head-test.true;
+        gains = by-shares (g.R.Rule.order c.args.rule.now) m c.args.gainer (task_at c.loop-head.search c.loop-head.head) _ _ true c.share_of-share.ensures.is c.share_of.ensures.is c.if-should_gain.ensures;
+      };
+      spoken = tt;
     }

@@ -1,6 +1,6 @@
 -- Lines that are taken in up to an end are those of the order that they give.
 use Rattle.std.proofs.Common.{◌≡◌, ℕ, ◌+◌, true, List, [], ◌∷◌, ◌++◌, length, Ok, sym, refl, ap, ◌∙◌, subst, append_assoc, append-nil}
-use Rattle.std.specs.List.{AllByRecursion as All}
+use Rattle.std.specs.List.{AllByRecursion}
 use Rattle.std.proofs.lemmas.Bool.{false≢true}
 use Rattle.board.specs.Meaning.{Meaning, Sound, cleared}
 use Rattle.records.specs.declared.kind.Kind.{Kind}
@@ -30,7 +30,7 @@ all_read m s lines h cores listed =
     let read : s.reader.core ≡ s.board.cores = cores ∙ own in
     h.front ∙ (λ i. parts s.reader.letter (rows i) (own i) (read i) s.board.capacity s.rows s.board.need s.board.held)
 
-end_read : (m : Meaning) (s t : Reading) (lines : List Line) (body : List ℕ) → All Byte body → Sofar m s lines → s.reader.core ≡ m.cores → length s.rows ≡ m.tasks
+end_read : (m : Meaning) (s t : Reading) (lines : List Line) (body : List ℕ) → AllByRecursion Byte body → Sofar m s lines → s.reader.core ≡ m.cores → length s.rows ≡ m.tasks
     → EndTaken s t body → Next m t lines (line kind.End body)
 end_read m s t lines body bytes h cores listed w =
     let all = all_read m s lines h cores listed in
@@ -41,7 +41,7 @@ end_read m s t lines body bytes h cores listed w =
     })
 
 -- one line more, by the section reached and the line's kind
-line_read : (m : Meaning) (z : Section) (k : Kind) (s t : Reading) (lines : List Line) (body : List ℕ) (at : ℕ) → Sound m → All Byte body → s.reader.section ≡ z → Read m z s lines
+line_read : (m : Meaning) (z : Section) (k : Kind) (s t : Reading) (lines : List Line) (body : List ℕ) (at : ℕ) → Sound m → AllByRecursion Byte body → s.reader.section ≡ z → Read m z s lines
     → step_in z k s body at ≡ Ok t → Next m t lines (line k body)
 line_read m section.Head kind.Head s t lines body at sound bytes q r e = head_read m s t lines body sound r (head-taken s t body at e)
 line_read m section.Head kind.Core s t lines body at sound bytes q r e = never _ t e
@@ -75,7 +75,7 @@ line_read m section.Slots kind.Slots s t lines body at sound bytes q r e = slots
 line_read m section.Slots kind.End s t lines body at sound bytes q r e = end_read m s t lines body bytes r.sofar r.cores r.listed (end-taken s t body at e)
 line_read m section.Ended k s t lines body at sound bytes q r e = never _ t e
 
-lines-read : (m : Meaning) → Sound m → (s t : Reading) (front rest : List Line) (at : ℕ) → All (λ line. All Byte line.body) rest → Read m s.reader.section s front
+lines-read : (m : Meaning) → Sound m → (s t : Reading) (front rest : List Line) (at : ℕ) → AllByRecursion (λ line. AllByRecursion Byte line.body) rest → Read m s.reader.section s front
     → folded s at rest ≡ Ok t → Read m t.reader.section t (front ++ rest)
 lines-read m sound s t front [] at bytes r e = subst (λ z. Read m z.reader.section z (front ++ [])) (ok_same s t e) (subst (Read m s.reader.section s) (sym (append-nil front)) r)
 lines-read m sound s t front (first ∷ rest) at bytes r e =
@@ -93,7 +93,7 @@ ended m section.Slots s lines e r = absurd (false≢true e)
 ended m section.Ended s lines e r = r
 
 -- lines that are all taken in, up to an end, are the lines of the order that they give, and a board can hold it
-pub folds-order : (m : Meaning) → Sound m → (lines : List Line) (at : ℕ) (t : Reading) → All (λ line. All Byte line.body) lines
+pub folds-order : (m : Meaning) → Sound m → (lines : List Line) (at : ℕ) (t : Reading) → AllByRecursion (λ line. AllByRecursion Byte line.body) lines
     → folded (before (cleared m) []) at lines ≡ Ok t → is_ended t.reader.section ≡ true
     → Valid m (record { letter = t.reader.letter; board = t.board; rows = t.rows })
     × (lines ≡ with_end (order_lines t.reader.letter t.board.cores t.board.capacity t.rows t.board.need t.board.held))

@@ -1,6 +1,6 @@
 -- The bytes of lines are read as just these lines, and accepted bytes are the bytes of lines.
 use Rattle.std.proofs.Common.{◌≡◌, ℕ, zero, suc, ◌+◌, ◌-◌, ◌*◌, ◌<◌, Bool, true, false, cond, ltb, List, [], ◌∷◌, ◌++◌, length, get_or, take, drop, Some, Ok, Err, Result, sym, refl, ap, ◌∙◌, subst, append_assoc, arith, length-append}
-use Rattle.std.specs.List.{AllByRecursion as All}
+use Rattle.std.specs.List.{AllByRecursion}
 use Rattle.std.proofs.lemmas.List.{take_at, take-append-drop, drop_all, drop_at, drop_more, get_or-append-add, drop-drop}
 use Rattle.std.proofs.ByRecursion.{All-get_or, All-take, All-drop}
 use Rattle.std.proofs.lemmas.Bool.Decides.{nat_tests}
@@ -66,7 +66,7 @@ cut-there front line rest at e =
     ∙ ap (cut_as f at (word_at f at)) (ap kind_of u2 ∙ kind-back line.kind) ∙ ap (λ b. Ok (record { kind = line.kind; body = b; place = at })) part
 
 -- a record once found: the rest of the file begins with its bytes
-cut-front : (file : List ℕ) (at : ℕ) (cut : Cut) → All Byte file → Found file at cut → drop at file ≡ record_bytes cut.kind cut.body ++ drop (at + 4 + length cut.body) file
+cut-front : (file : List ℕ) (at : ℕ) (cut : Cut) → AllByRecursion Byte file → Found file at cut → drop at file ≡ record_bytes cut.kind cut.body ++ drop (at + 4 + length cut.body) file
 cut-front file at cut bytes w =
     let n = length cut.body in
     let z = found-end file at cut w in
@@ -145,7 +145,7 @@ lines-run (line ∷ lines) s t front at k e d ended enough =
 pub record Lined (s : Reading) (file : List ℕ) (at : ℕ) (t : Reading) : Type 0 where
   pub lines : List Line
   pub bytes : drop at file ≡ bytes_of lines
-  pub small : All (λ line. All Byte line.body) lines
+  pub small : AllByRecursion (λ line. AllByRecursion Byte line.body) lines
   pub taken : folded s at lines ≡ Ok t
   pub ended : is_ended t.reader.section ≡ true
 
@@ -153,7 +153,7 @@ nothing_left : (b : Bool) (fault : Fault) (y : Unit {0}) → cond b (Err fault) 
 nothing_left true fault y e = let z : ◌≡◌ {A = ℕ} 0 1 = cc in absurd (omega arith)
 nothing_left false fault y e = refl
 
-module _ (k : ℕ) (s t : Reading) (file : List ℕ) (at : ℕ) (bytes : All Byte file) (ih : (next : Reading) (to : ℕ) → run k next file to ≡ Ok t → Lined next file to t) where
+module _ (k : ℕ) (s t : Reading) (file : List ℕ) (at : ℕ) (bytes : AllByRecursion Byte file) (ih : (next : Reading) (to : ℕ) → run k next file to ≡ Ok t → Lined next file to t) where
   lined-by : (b : Bool) → is_ended s.reader.section ≡ b → cond b (finished s file at) (then (cut_at file at) (λ cut. then (step s cut) (λ next. run k next file (at + 4 + length cut.body)))) ≡ Ok t → Lined s file at t
   lined-by true ended e =
       let p = then_ok (finish_at file at) (λ _. Ok s) t e in
@@ -172,12 +172,12 @@ module _ (k : ℕ) (s t : Reading) (file : List ℕ) (at : ℕ) (bytes : All Byt
       record {
         lines = line ∷ rest.lines;
         bytes = cut-front file at cut bytes w ∙ ap (λ l. record_bytes cut.kind cut.body ++ l) rest.bytes;
-        small = (subst (All Byte) (sym w.body) (All-take Byte _ _ (All-drop Byte (at + 4) file bytes)), rest.small);
+        small = (subst (AllByRecursion Byte) (sym w.body) (All-take Byte _ _ (All-drop Byte (at + 4) file bytes)), rest.small);
         taken = folded-step s q.0 at line rest.lines (ap (step s) there ∙ q.1) ∙ rest.taken;
         ended = rest.ended;
       }
 
 -- a file that is accepted is made of lines that are taken in up to an end
-pub run-lines : (k : ℕ) (s t : Reading) (file : List ℕ) (at : ℕ) → All Byte file → run k s file at ≡ Ok t → Lined s file at t
+pub run-lines : (k : ℕ) (s t : Reading) (file : List ℕ) (at : ℕ) → AllByRecursion Byte file → run k s file at ≡ Ok t → Lined s file at t
 run-lines zero s t file at bytes e = let z : ◌≡◌ {A = ℕ} 0 1 = cc in absurd (omega arith)
 run-lines (suc k) s t file at bytes e = lined-by k s t file at bytes (λ next to d. run-lines k next t file to bytes d) (is_ended s.reader.section) refl e

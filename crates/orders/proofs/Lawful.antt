@@ -1,6 +1,6 @@
 -- Accepted files are just the encodings of orders that the board can hold.
 use Rattle.std.proofs.Common.{◌≡◌, ℕ, suc, ◌<◌, ◌≤◌, ltb, List, [], ◌∷◌, length, Ok, Err, Result, sym, refl, ap, ◌∙◌, subst, arith, length-append}
-use Rattle.std.specs.List.{AllByRecursion as All}
+use Rattle.std.specs.List.{AllByRecursion}
 use Rattle.std.proofs.lemmas.Bool.{le-ltb, cond-false}
 use Rattle.board.specs.declared.fault.Fault.{Fault}
 use Rattle.board.specs.declared.fault.Refusal.TheVariants.{FileTooLong}
@@ -41,7 +41,7 @@ encodings-read m order valid =
     ∙ ap order_of whole
     ∙ p.3
 
-accepted : (m : Meaning) (file : List ℕ) (order : Order) → Sound m → All Byte file → read_of m file ≡ Ok order → Valid m order × (file ≡ encoding order)
+accepted : (m : Meaning) (file : List ℕ) (order : Order) → Sound m → AllByRecursion Byte file → read_of m file ≡ Ok order → Valid m order × (file ≡ encoding order)
 accepted m file order sound bytes e =
     let p = order-ok (run_from (cleared m) [] file) order e in
     let q = then_ok (open_of file) (λ walk. run (suc (length file)) (before (cleared m) []) walk.file walk.at) p.0 p.1.0 in
@@ -51,7 +51,7 @@ accepted m file order sound bytes e =
     let found = folds-order m sound lined.lines 0 p.0 lined.small lined.taken lined.ended in
     subst (λ x. Valid m x × (file ≡ encoding x)) p.1.1 (found.0, lined.bytes ∙ ap bytes_of found.1)
 
-lawful-by : (m : Meaning) (file : List ℕ) → Sound m → All Byte file → (o : Outcome) → read_of m file ≡ o → Lawful m file o
+lawful-by : (m : Meaning) (file : List ℕ) → Sound m → AllByRecursion Byte file → (o : Outcome) → read_of m file ≡ o → Lawful m file o
 lawful-by m file sound bytes (Ok order) e = accepted m file order sound bytes e
 lawful-by m file sound bytes (Err fault) e = λ order valid same.
     let no : ◌≡◌ {A = Outcome} (Err fault) (Ok order) = sym e ∙ ap (read_of m) same ∙ encodings-read m order valid in

@@ -1,6 +1,6 @@
 -- The head, the cores and the tasks of a file are the lines of what is read from them.
 use Rattle.std.proofs.Common.{◌≡◌, ℕ, suc, ◌+◌, eqb, List, [], ◌∷◌, ◌++◌, length, get_or, sym, refl, ap, ◌∙◌, subst, arith}
-use Rattle.std.specs.List.{AllByRecursion as All}
+use Rattle.std.specs.List.{AllByRecursion}
 use Rattle.std.proofs.lemmas.List.{length_push, get_or_push}
 use Rattle.std.proofs.lemmas.Bool.Decides.{nat_tests}
 use Rattle.std.proofs.lemmas.Bool.{cond_both, eqb-true, eqb-false}
@@ -69,11 +69,11 @@ head_read m s t lines body sound r w =
       held = λ _ _. refl;
     })
 
-core-shape : (s : Reader) (body : List ℕ) (found : CoreLine) → All Byte body → CoreTold s body found → body ≡ s.core ∷ word found.capacity
+core-shape : (s : Reader) (body : List ℕ) (found : CoreLine) → AllByRecursion Byte body → CoreTold s body found → body ≡ s.core ∷ word found.capacity
 core-shape s body found bytes told =
     core-body body bytes told.size ∙ ap (λ l. l.core ∷ word l.capacity) (sym told.says) ∙ ap (λ n. n ∷ word found.capacity) told.next
 
-core-sofar : (m : Meaning) (s : Reading) (lines : List Line) (body : List ℕ) (found : CoreLine) → All Byte body → InCores m s lines → CoreTold s.reader body found
+core-sofar : (m : Meaning) (s : Reading) (lines : List Line) (body : List ℕ) (found : CoreLine) → AllByRecursion Byte body → InCores m s lines → CoreTold s.reader body found
     → Sound (core_done s found).board → Sofar m (core_done s found) (lines ++ line kind.Core body ∷ [])
 core-sofar m s lines body found bytes r told sound =
     let h = r.sofar in
@@ -105,7 +105,7 @@ core-sofar m s lines body found bytes r told sound =
           ∙ push-under (head_line s.reader.letter m.tasks m.cores) _ _ _ (push-here _ _ _ _ rest more);
     }
 
-pub core-read : (m : Meaning) (s t : Reading) (lines : List Line) (body : List ℕ) → All Byte body → s.reader.section ≡ section.Cores → InCores m s lines → CoreTaken s t body → Next m t lines (line kind.Core body)
+pub core-read : (m : Meaning) (s t : Reading) (lines : List Line) (body : List ℕ) → AllByRecursion Byte body → s.reader.section ≡ section.Cores → InCores m s lines → CoreTaken s t body → Next m t lines (line kind.Core body)
 core-read m s t lines body bytes at r w =
     let found = w.line in
     let new : List Line = lines ++ line kind.Core body ∷ [] in

@@ -1,6 +1,6 @@
 -- The needs and the slots of a file are the lines of what is read from them.
 use Rattle.std.proofs.Common.{◌≡◌, ℕ, ◌<◌, ◌≤◌, true, List, [], ◌∷◌, ◌++◌, length, Some, None, Option, sym, refl, ap, ◌∙◌, subst, arith}
-use Rattle.std.specs.List.{AllByRecursion as All}
+use Rattle.std.specs.List.{AllByRecursion}
 use Rattle.std.proofs.lemmas.List.{length_push}
 use Rattle.std.proofs.lemmas.Bool.Decides.{nat_tests}
 use Rattle.fairness.specs.Plans.{Plan}
@@ -56,10 +56,10 @@ pairs-more kind n m plan s body found tasks cores none told =
     (λ d le. none (pair_at t d) (follows-core s.last t c d le told.rises))
     (λ u d lt. none (pair_at u d) (follows-task s.last t c u d lt told.rises))
 
-pair-shape : (s : Reader) (body : List ℕ) (found : PairLine) → All Byte body → PairTold s body found → body ≡ found.task ∷ found.core ∷ word found.amount
+pair-shape : (s : Reader) (body : List ℕ) (found : PairLine) → AllByRecursion Byte body → PairTold s body found → body ≡ found.task ∷ found.core ∷ word found.amount
 pair-shape s body found bytes told = pair-body body bytes told.size ∙ ap (λ l. l.task ∷ l.core ∷ word l.amount) (sym told.says)
 
-pub need-read : (m : Meaning) (s t : Reading) (lines : List Line) (body : List ℕ) → All Byte body → s.reader.section ≡ section.Needs → InNeeds m s lines → NeedTaken s t body → Next m t lines (line kind.Need body)
+pub need-read : (m : Meaning) (s t : Reading) (lines : List Line) (body : List ℕ) → AllByRecursion Byte body → s.reader.section ≡ section.Needs → InNeeds m s lines → NeedTaken s t body → Next m t lines (line kind.Need body)
 need-read m s t lines body bytes at r w =
     let h = r.sofar in
     let b = s.board in
@@ -93,7 +93,7 @@ need-read m s t lines body bytes at r w =
       held = r.held;
     }))
 
-pub slots_read : (m : Meaning) (s t : Reading) (lines : List Line) (body : List ℕ) → All Byte body → s.reader.section ≡ section.Slots → InSlots m s lines → SlotsTaken s t body → Next m t lines (line kind.Slots body)
+pub slots_read : (m : Meaning) (s t : Reading) (lines : List Line) (body : List ℕ) → AllByRecursion Byte body → s.reader.section ≡ section.Slots → InSlots m s lines → SlotsTaken s t body → Next m t lines (line kind.Slots body)
 slots_read m s t lines body bytes at r w =
     let h = r.sofar in
     let b = s.board in

@@ -1,6 +1,6 @@
 -- Which files are orders: the encodings of what a board can hold, and no others.
 use Rattle.std.specs.Prelude.{◌≡◌, ℕ, ◌<◌, ◌≤◌, true, List, length, Ok, Err, ◌≢◌}
-use Rattle.std.specs.List.{AllByRecursion as All}
+use Rattle.std.specs.List.{AllByRecursion}
 use Rattle.board.specs.Meaning.{Meaning, Sound, cleared}
 use Rattle.tasks.specs.Rows.{sound}
 use Rattle.sections.specs.declared.letter.Sharing.{Sharing}
@@ -39,7 +39,7 @@ Lawful m file (Err fault) = (order : Order) → Valid m order → file ≢ encod
 
 -- the definition that finds a file's first fault keeps this law
 abbrev pub ReadingLawful : Type 0
-ReadingLawful = (m : Meaning) (file : List ℕ) → Sound m → All Byte file → Lawful m file (read_of m file)
+ReadingLawful = (m : Meaning) (file : List ℕ) → Sound m → AllByRecursion Byte file → Lawful m file (read_of m file)
 
 -- an encoding gives back just the order that it says, so no two orders have the same
 abbrev pub EncodingsRead : Type 0

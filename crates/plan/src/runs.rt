@@ -11,8 +11,7 @@ ghost use Rattle.plan.specs.States.{lent_of, rule_of, is_working};
 use crate::states::{ReleasedPlan, WorkingPlan};
 use board::fault::Fault;
 use board::{Board, MOST_TASKS};
-pub use calls::Call;
-use calls::first_out_of_turn;
+pub use calls::{Call, first_out_of_turn};
 use rules::Rule;
 
 // What a call was told, and the totals of the plan that it left.

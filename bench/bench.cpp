@@ -217,7 +217,7 @@ static void compare_reports(int seeds) {
             double b = 1e18;
             std::string first, second;
             for (int turn = 0; turn < 5; turn++) {
-                a = std::min(a, run_program("target/bin/report", path, first));
+                a = std::min(a, run_program("crates/report/out/report", path, first));
                 b = std::min(b, run_program("target/plain_report", path, second));
             }
             if (totals_in(first) != totals_in(second)) {

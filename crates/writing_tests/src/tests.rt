@@ -85,7 +85,7 @@ fn from_board_to_board(rt: HostRuntime) {
     assert_eq!(rt; rows.held(1, 1), 2);
     assert_eq!(rt; rows.capacity(0), 400);
     assert_eq!(rt; rows.free_slots(), 401);
-    assert!(rt; names.name(1) == b"log");
+    assert!(rt; names.name(1) == b"log".as_slice());
     assert!(rt; first.set_capacity(0, 401).is_ok());
     assert_eq!(rt;
         told_letter(write_and_read(&first, &tasks, 0x6E, &mut out, &mut rows, &mut names)),

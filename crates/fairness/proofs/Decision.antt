@@ -1,9 +1,10 @@
 -- The computation tells the fairest plans from the others.
 use Rattle.std.proofs.Common.{◌≡◌, ℕ, zero, suc, ◌+◌, ◌-◌, ◌<◌, ◌≤◌, Bool, true, cond, not, ◌&&◌, ◌||◌, eqb, ltb, leb, sym, ap, ◌∙◌, inl, inr, arith}
+use Rattle.std.specs.Ordering.{is_le}
 use Rattle.std.proofs.lemmas.Bool.{and_parts, and_from, or_cases, or_left, or_right, cases_Bool, cases_lt, cases_eq, cases_order, cond-true, cond-false, ne_eqb, ltb-true, eqb-false, both_ways, leb-true, le-leb, eqb-true, eq-eqb, not-true, not_from_false}
 use Rattle.fairness.specs.Sums.{all_to}
 use Rattle.fairness.specs.Plans.{Plan, given, total, Feasible}
-use Rattle.fairness.specs.Laws.{Comparison, Lawful, at_most}
+use Rattle.fairness.specs.Laws.{Comparison, Lawful}
 use Rattle.fairness.specs.Levels.{share_with, share_of, Fairest, Countable}
 use Rattle.fairness.specs.Routes.{Route, should_gain}
 use Rattle.fairness.specs.Settled.{Safe}
@@ -158,7 +159,7 @@ only_these compare lawful n m need capacity few held fairest only other also tas
         → count_at compare n (total m need) (total m held) (share_with (total m need) i slots) ≡ count_at compare n (total m need) u (share_with (total m need) i slots)
     alike u same i slots =
         fairest-same-levels compare lawful n m need capacity held other fairest also i slots
-        ∙ sum-eq n _ _ (λ k w. ap (λ x. cond (at_most (compare (share_with (total m need) k x) (share_with (total m need) i slots))) 1 0) (sym (same k w)))
+        ∙ sum-eq n _ _ (λ k w. ap (λ x. cond (is_le (compare (share_with (total m need) k x) (share_with (total m need) i slots))) 1 0) (sym (same k w)))
 
 -- steps that pass the test make a route
 pub route-from : (n m : ℕ) (need held : Plan) (steps : ℕ) (at through : ℕ → ℕ) → is_route n m need held steps at through ≡ true → Route n m need held steps at through

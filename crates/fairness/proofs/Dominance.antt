@@ -1,4 +1,4 @@
--- Threshold counting, and the stepsAbove sum.
+-- Threshold counting, and the sum of the steps above a threshold.
 use Rattle.std.proofs.Common.{◌≡◌, ℕ, zero, suc, ◌-◌, ◌<◌, ◌≤◌, min, Bool, true, false, cond, not, ltb, refl, ◌∙◌, inl, inr, arith}
 use Rattle.std.proofs.lemmas.Bool.{cases_lt, both_ways, not-true}
 use Rattle.fairness.specs.Sums.{sum_to}
@@ -56,7 +56,7 @@ threshold n v g ta tb r le inner outer =
       in-le n (λ i. not (r i)) B A (λ i l x. sum_past (ta i) (tb i) _ (λ k u w. grind (arith, outer i k l (not-true _ x) u w))),
     )
 
--- a sum of g's, stepsAbove by stepsAbove
+-- a sum of g's, step by step
 by-layers : (n M : ℕ) (g : ℕ → ℕ → ℕ) (t : ℕ → ℕ) → ((i k : ℕ) → i < n → k < t i → g i k ≤ M)
     → worth n g t ≡ sum_to M (λ v. steps_above n g v t)
 by-layers n M g t h =

@@ -1,9 +1,9 @@
 -- A fairest plan is settled.
 use Rattle.std.proofs.Common.{◌≡◌, ℕ, suc, ◌+◌, ◌-◌, ◌<◌, ◌≤◌, true, sym, refl, inl, inr, arith}
+use Rattle.std.specs.declared.cmp.Ordering.TheVariants.{Less}
 use Rattle.std.proofs.lemmas.Bool.{cases_eq, cases_lt, cases_Bool, ne_eqb}
 use Rattle.fairness.specs.Plans.{given, total}
 use Rattle.fairness.proofs.Orders.{Compare, Laws, Rising, Fairest, gains, Settled}
-use Rattle.fairness.specs.declared.Rank.TheVariants.{Below}
 use Rattle.fairness.proofs.Settled.{settled-within-one}
 use Rattle.fairness.specs.Moves.{same}
 use Rattle.fairness.proofs.Moves.{take, taken-total, taken-feasible, same_self, same-other}
@@ -12,10 +12,10 @@ use Rattle.fairness.proofs.Reach.{Fresh, layer-own, layer-next, stable, first, a
 use Rattle.fairness.proofs.Gains.{gain-fairer, free-fairer}
 
 -- a task gains nothing from itself
-pub no_self : (cmp : Compare) → Laws cmp → (p x : ℕ) → 0 < x → cmp p (x - 1) p (suc (x - 1)) ≡ Below → gains cmp p x p x ≡ true → ⊥
+pub no_self : (cmp : Compare) → Laws cmp → (p x : ℕ) → 0 < x → cmp p (x - 1) p (suc (x - 1)) ≡ Less → gains cmp p x p x ≡ true → ⊥
 no_self cmp laws p x pos rise g =
     let e : suc (x - 1) ≡ x = omega arith in
-    let up : cmp p (x - 1) p x ≡ Below = rw e at rise in
+    let up : cmp p (x - 1) p x ≡ Less = rw e at rise in
     grind (arith, laws.mirrored p (x - 1) p x)
 
 module _ (cmp : Compare) (laws : Laws cmp) (n m : ℕ) (d : ℕ → ℕ → ℕ) (c cap : ℕ → ℕ) (up : Rising cmp n cap) (a : ℕ → ℕ → ℕ) (fair : Fairest cmp n m d c cap a)

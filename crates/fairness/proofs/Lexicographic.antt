@@ -1,11 +1,12 @@
 -- Under the even rule, fairer is the same as a greater sorted list.
 use Rattle.std.proofs.Common.{◌≡◌, ℕ, ◌<◌, ◌≤◌, cond, not, eqb, leb, ◌⊎◌, get_or, sym, ap, ◌∙◌, inl, inr, arith}
+use Rattle.std.specs.declared.cmp.Ordering.TheVariants.{Less}
+use Rattle.std.specs.Ordering.{is_le, nat_cmp}
 use Rattle.std.proofs.lemmas.Bool.{cases_lt, cases_order, eqb-true, eqb-false, not-true, not-false}
-use Rattle.fairness.specs.declared.Rank.TheVariants.{Below}
 use Rattle.fairness.specs.Plans.{Plan, total, Feasible}
-use Rattle.fairness.specs.Laws.{at_most, most_counted}
+use Rattle.fairness.specs.Laws.{most_counted}
 use Rattle.fairness.specs.Levels.{at_or_below, level_at, Fairer, Countable}
-use Rattle.fairness.specs.Even.{even, standing, counted}
+use Rattle.fairness.specs.Even.{even, counted}
 use Rattle.fairness.specs.Lexicographic.{sorted, Smaller, Equal, EvenLexicographic}
 use Rattle.fairness.proofs.Sums.{sum-eq, first-cases}
 use Rattle.fairness.proofs.Numbers.{up_to, up_to-le, had-at}
@@ -98,7 +99,7 @@ smaller-once n t u s o = elim o [
   | inr same ↦ omega (arith, s.less, same s.place (omega (arith, s.inside, sorted-length n t, sorted-length n u)))
 ]
 
-at-most-leb : (x y : ℕ) → at_most (standing x y) ≡ leb x y
+at-most-leb : (x y : ℕ) → is_le (nat_cmp x y) ≡ leb x y
 at-most-leb x y = grind arith
 
 module _ (n m : ℕ) (need : Plan) (capacity : ℕ → ℕ) (few : Countable n m need) where
@@ -108,7 +109,7 @@ module _ (n m : ℕ) (need : Plan) (capacity : ℕ → ℕ) (few : Countable n m
   even-counts : (held : Plan) → Feasible n m need capacity held → (task slots : ℕ)
       → at_or_below even n m need held (level_at m need task slots) ≡ up_to n (total m held) (counted slots)
   even-counts held f task slots =
-      sum-eq n (λ i. cond (at_most (standing (counted (total m held i)) (counted slots))) 1 0) (λ i. cond (leb (total m held i) (counted slots)) 1 0)
+      sum-eq n (λ i. cond (is_le (nat_cmp (counted (total m held i)) (counted slots))) 1 0) (λ i. cond (leb (total m held i) (counted slots)) 1 0)
       (λ i l.
       let e : counted (total m held i) ≡ total m held i = omega (arith, low held f i l) in
       rw e (ap (λ b. cond b 1 0) (at-most-leb (total m held i) (counted slots))))
@@ -132,7 +133,7 @@ module _ (n m : ℕ) (need : Plan) (capacity : ℕ → ℕ) (few : Countable n m
               );
         }
       where
-        below-lower : (x y : ℕ) → counted x < counted y → standing (counted x) (counted y) ≡ Below
+        below-lower : (x y : ℕ) → counted x < counted y → nat_cmp (counted x) (counted y) ≡ Less
         below-lower x y l = grind arith
 
     fewer-even : FewerAt n (total m first) (total m second) → Fairer even n m need first second
@@ -152,7 +153,7 @@ module _ (n m : ℕ) (need : Plan) (capacity : ℕ → ℕ) (few : Countable n m
               ∙ sym (even-counts second also other amount);
         }
       where
-        below_less : (x y : ℕ) → standing (counted x) (counted y) ≡ Below → counted x < counted y
+        below_less : (x y : ℕ) → nat_cmp (counted x) (counted y) ≡ Less → counted x < counted y
         below_less x y e = grind arith
 
 pub even-lexicographic : EvenLexicographic

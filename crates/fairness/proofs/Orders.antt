@@ -1,33 +1,34 @@
 -- Levels on one board, with a cap on each task's total: a level is a task and a total, and `cmp i x k y` says where (i, x) stands, seen from (k, y).
 use Rattle.std.proofs.Common.{◌≡◌, ℕ, suc, ◌-◌, ◌<◌, Bool, true, false, cond, ◌⊎◌}
-use Rattle.fairness.specs.declared.Rank.{Rank}
-use Rattle.fairness.specs.declared.Rank.TheVariants.{Below}
+use Rattle.std.specs.declared.cmp.Ordering.{Ordering}
+use Rattle.std.specs.declared.cmp.Ordering.TheVariants.{Less}
+use Rattle.std.specs.Ordering.{is_le, ordering_reverse}
 use Rattle.fairness.specs.Sums.{sum_to}
 use Rattle.fairness.specs.Plans.{total, Feasible}
 use Rattle.fairness.specs.Levels.{share_with}
-use Rattle.fairness.specs.Laws.{Comparison, mirror, at_most}
+use Rattle.fairness.specs.Laws.{Comparison}
 use Rattle.fairness.specs.Routes.{worthwhile}
 use Rattle.fairness.specs.Settled.{Closed}
 use Rattle.fairness.proofs.Steps.{Capped}
 
 abbrev pub Compare : Type 0
-Compare = ℕ → ℕ → ℕ → ℕ → Rank
+Compare = ℕ → ℕ → ℕ → ℕ → Ordering
 
 -- a rule's comparison on a board whose tasks have the whole needs given
 abbrev pub on_board : Comparison → (ℕ → ℕ) → Compare
 on_board compare whole i x k y = compare (share_with whole i x) (share_with whole k y)
 
 pub record Laws (cmp : Compare) : Type 0 where
-  pub mirrored : (i x k y : ℕ) → cmp k y i x ≡ mirror (cmp i x k y)
-  pub transitive : (i x k y l z : ℕ) → at_most (cmp i x k y) ≡ true → at_most (cmp k y l z) ≡ true → at_most (cmp i x l z) ≡ true
+  pub mirrored : (i x k y : ℕ) → cmp k y i x ≡ ordering_reverse (cmp i x k y)
+  pub transitive : (i x k y l z : ℕ) → is_le (cmp i x k y) ≡ true → is_le (cmp k y l z) ≡ true → is_le (cmp i x l z) ≡ true
 
 -- a slot more is a higher level, up to the caps
 abbrev pub Rising : Compare → ℕ → (ℕ → ℕ) → Type 0
-Rising cmp n cap = (i x : ℕ) → i < n → x < cap i → cmp i x i (suc x) ≡ Below
+Rising cmp n cap = (i x : ℕ) → i < n → x < cap i → cmp i x i (suc x) ≡ Less
 
 -- how many of n tasks with the totals t stand at or below the level (k, y)
 abbrev pub at_or_below : Compare → ℕ → (ℕ → ℕ) → ℕ → ℕ → ℕ
-at_or_below cmp n t k y = sum_to n (λ i. cond (at_most (cmp i (t i) k y)) 1 0)
+at_or_below cmp n t k y = sum_to n (λ i. cond (is_le (cmp i (t i) k y)) 1 0)
 
 -- the totals t are fairer than u: at some level that a task has in either there are fewer at or below it, and at every lower level equally many
 pub record Fairer (cmp : Compare) (n : ℕ) (t u : ℕ → ℕ) : Type 0 where
@@ -36,7 +37,7 @@ pub record Fairer (cmp : Compare) (n : ℕ) (t u : ℕ → ℕ) : Type 0 where
   pub one : who < n
   pub had : (t who ≡ what) ⊎ (u who ≡ what)
   pub fewer : at_or_below cmp n t who what < at_or_below cmp n u who what
-  pub lower : (k y : ℕ) → k < n → cmp k y who what ≡ Below → at_or_below cmp n t k y ≡ at_or_below cmp n u k y
+  pub lower : (k y : ℕ) → k < n → cmp k y who what ≡ Less → at_or_below cmp n t k y ≡ at_or_below cmp n u k y
 
 -- the same, but that only the lower levels count that a task has in either
 pub record Fairer-had (cmp : Compare) (n : ℕ) (t u : ℕ → ℕ) : Type 0 where
@@ -45,7 +46,7 @@ pub record Fairer-had (cmp : Compare) (n : ℕ) (t u : ℕ → ℕ) : Type 0 whe
   pub one : who < n
   pub had : (t who ≡ what) ⊎ (u who ≡ what)
   pub fewer : at_or_below cmp n t who what < at_or_below cmp n u who what
-  pub lower : (k y : ℕ) → k < n → (t k ≡ y) ⊎ (u k ≡ y) → cmp k y who what ≡ Below → at_or_below cmp n t k y ≡ at_or_below cmp n u k y
+  pub lower : (k y : ℕ) → k < n → (t k ≡ y) ⊎ (u k ≡ y) → cmp k y who what ≡ Less → at_or_below cmp n t k y ≡ at_or_below cmp n u k y
 
 pub record Fairest (cmp : Compare) (n m : ℕ) (d : ℕ → ℕ → ℕ) (c cap : ℕ → ℕ) (a : ℕ → ℕ → ℕ) : Type 0 where
   pub feasible : Feasible n m d c a

@@ -1,15 +1,15 @@
 -- A settled plan is fairest.
 use Rattle.std.proofs.Common.{◌≡◌, ℕ, zero, suc, ◌+◌, ◌-◌, ◌<◌, ◌≤◌, Bool, true, false, cond, ltb, leb, ◌⊎◌, sym, refl, ap, ◌∙◌, subst, inl, inr, arith}
+use Rattle.std.specs.declared.cmp.Ordering.{Ordering}
+use Rattle.std.specs.declared.cmp.Ordering.TheVariants.{Less, Equal, Greater}
+use Rattle.std.specs.Ordering.{is_lt}
 use Rattle.std.proofs.lemmas.Bool.{cases_lt, cases_order, lt-ltb, cond-true, true≢false, false≢true}
 use Rattle.fairness.specs.Sums.{sum_to}
 use Rattle.fairness.specs.Plans.{total, Feasible}
 use Rattle.fairness.specs.Routes.{worthwhile}
 use Rattle.fairness.specs.Settled.{Closed}
 use Rattle.fairness.proofs.Steps.{Capped, Strict, Held, worth}
-use Rattle.fairness.specs.Laws.{is_below}
 use Rattle.fairness.proofs.Orders.{Compare, Laws, Rising, at_or_below, Fairest, gains, Safe, Settled}
-use Rattle.fairness.specs.declared.Rank.{Rank}
-use Rattle.fairness.specs.declared.Rank.TheVariants.{Below, Level, Above}
 use Rattle.fairness.proofs.Sums.{sum-eq, sum-add, sum-at}
 use Rattle.fairness.proofs.Numbers.{digits_sum, weight, weight-twice, drop_le, drop-lt}
 use Rattle.fairness.proofs.Ranks.{rank, rank-keeps, below-rank, rank_rises, top, rank-top}
@@ -28,15 +28,15 @@ pub pot-sum : (cmp : Compare) (n h : ℕ) (t : ℕ → ℕ) → pot cmp n h t �
 unfolding pot value weight
 pot-sum cmp n h t = digits_sum (suc (suc n)) n (λ i r. cond (leb (rank cmp n h i (t i)) r) 1 0) (top n h)
 
-fail-cases : (o o' : Rank) → worthwhile o o' ≡ false → (o ≡ Above) ⊎ ((o ≡ Level) × (is_below o' ≡ false))
-fail-cases Below o' e = absurd (true≢false e)
-fail-cases Level o' e = inr (refl, e)
-fail-cases Above o' e = inl refl
+fail-cases : (o o' : Ordering) → worthwhile o o' ≡ false → (o ≡ Greater) ⊎ ((o ≡ Equal) × (is_lt o' ≡ false))
+fail-cases Less o' e = absurd (true≢false e)
+fail-cases Equal o' e = inr (refl, e)
+fail-cases Greater o' e = inl refl
 
-gain-cases : (o o' : Rank) → worthwhile o o' ≡ true → (o ≡ Below) ⊎ ((o ≡ Level) × (is_below o' ≡ true))
-gain-cases Below o' e = inl refl
-gain-cases Level o' e = inr (refl, e)
-gain-cases Above o' e = absurd (false≢true e)
+gain-cases : (o o' : Ordering) → worthwhile o o' ≡ true → (o ≡ Less) ⊎ ((o ≡ Equal) × (is_lt o' ≡ true))
+gain-cases Less o' e = inl refl
+gain-cases Equal o' e = inr (refl, e)
+gain-cases Greater o' e = absurd (false≢true e)
 
 module _ (cmp : Compare) (laws : Laws cmp) (n h : ℕ) (cap : ℕ → ℕ) (up : Rising cmp n cap) (tall : (i : ℕ) → i < n → suc (cap i) < h) where
   rises : (i x : ℕ) → i < n → x < cap i → rank cmp n h i x < rank cmp n h i (suc x)

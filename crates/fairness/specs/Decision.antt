@@ -1,15 +1,16 @@
 -- Computations that tell whether a plan is fairest, whether other totals are, and whether steps make a route.
-use Rattle.std.specs.Prelude.{◌≡◌, ℕ, zero, suc, ◌-◌, Bool, true, false, cond, not, ◌&&◌, ◌||◌, ltb, leb, ◌==◌, nat_eq, nat_le, nat_lt}
+use Rattle.std.specs.Prelude.{◌≡◌, ℕ, zero, suc, ◌-◌, Bool, true, false, cond, not, ◌&&◌, ◌||◌, ◌==◌, nat_eq, nat_le, nat_lt}
+use Rattle.std.specs.Ordering.{is_le}
 use Rattle.fairness.specs.declared.Share.{Share}
 use Rattle.fairness.specs.Sums.{sum_to, all_to, some_to}
 use Rattle.fairness.specs.Plans.{Plan, given, total}
-use Rattle.fairness.specs.Laws.{Comparison, Lawful, at_most}
+use Rattle.fairness.specs.Laws.{Comparison, Lawful}
 use Rattle.fairness.specs.Levels.{share_with, share_of, Fairest, Countable}
 use Rattle.fairness.specs.Routes.{should_gain}
 
 abbrev pub is_feasible : ℕ → ℕ → Plan → (ℕ → ℕ) → Plan → Bool
 is_feasible n m need capacity held =
-    all_to n (λ task. all_to m (λ core. leb (held task core) (need task core))) && all_to m (λ core. leb (given n held core) (capacity core))
+    all_to n (λ task. all_to m (λ core. nat_le (held task core) (need task core))) && all_to m (λ core. nat_le (given n held core) (capacity core))
 
 -- the task needs more of a core of which the holder has slots
 abbrev pub leads : ℕ → Plan → Plan → ℕ → ℕ → Bool
@@ -46,7 +47,7 @@ FairestDecided =
 
 -- the tasks at or below a level, where the tasks have these whole needs and totals
 abbrev pub count_at : Comparison → ℕ → (ℕ → ℕ) → (ℕ → ℕ) → Share → ℕ
-count_at compare n whole totals level = sum_to n (λ task. cond (at_most (compare (share_with whole task (totals task)) level)) 1 0)
+count_at compare n whole totals level = sum_to n (λ task. cond (is_le (compare (share_with whole task (totals task)) level)) 1 0)
 
 -- equally many at or below each level that a task has with either totals
 abbrev pub same_counts : Comparison → ℕ → (ℕ → ℕ) → (ℕ → ℕ) → (ℕ → ℕ) → Bool
@@ -72,9 +73,9 @@ is_only compare n m need held = all_near n (total m held) (total m held) (λ oth
 abbrev pub is_route : ℕ → ℕ → Plan → Plan → ℕ → (ℕ → ℕ) → (ℕ → ℕ) → Bool
 is_route n m need held steps at through =
     nat_lt 0 steps
-    && (all_to (suc steps) (λ s. ltb (at s) n)
-    && (all_to steps (λ s. ltb (through s) m)
-    && (all_to steps (λ s. ltb (held (at s) (through s)) (need (at s) (through s)))
-    && (all_to steps (λ s. ltb 0 (held (at (suc s)) (through s)))
+    && (all_to (suc steps) (λ s. nat_lt (at s) n)
+    && (all_to steps (λ s. nat_lt (through s) m)
+    && (all_to steps (λ s. nat_lt (held (at s) (through s)) (need (at s) (through s)))
+    && (all_to steps (λ s. nat_lt 0 (held (at (suc s)) (through s)))
     && (all_to (suc steps) (λ s. all_to s (λ r. not (at r == at s)))
     && all_to steps (λ s. all_to s (λ r. not (through r == through s))))))))

@@ -1,38 +1,19 @@
 -- How a rule compares two shares, and the laws that every rule keeps.
 use Rattle.std.specs.Prelude.{◌≡◌, ℕ, ◌<◌, ◌≤◌, Bool, true, false}
+use Rattle.std.specs.declared.cmp.Ordering.{Ordering}
+use Rattle.std.specs.declared.cmp.Ordering.TheVariants.{Equal, Greater}
+use Rattle.std.specs.Ordering.{is_le, ordering_reverse}
 use Rattle.fairness.specs.declared.Share.{Share}
-use Rattle.fairness.specs.declared.Rank.{Rank}
-use Rattle.fairness.specs.declared.Rank.TheVariants.{Below, Level, Above}
 
 -- the greatest amount that rules tell apart from a smaller one
 abbrev pub most_counted : ℕ
 most_counted = 16000
 
 abbrev pub Comparison : Type 0
-Comparison = Share → Share → Rank
-
-abbrev pub mirror : Rank → Rank
-mirror Below = Above
-mirror Level = Level
-mirror Above = Below
-
-abbrev pub at_most : Rank → Bool
-at_most Below = true
-at_most Level = true
-at_most Above = false
-
-abbrev pub is_below : Rank → Bool
-is_below Below = true
-is_below Level = false
-is_below Above = false
-
-abbrev pub is_level : Rank → Bool
-is_level Below = false
-is_level Level = true
-is_level Above = false
+Comparison = Share → Share → Ordering
 
 pub record Lawful (compare : Comparison) : Type 0 where
-  pub mirrored : (a b : Share) → compare b a ≡ mirror (compare a b)
-  pub transitive : (a b c : Share) → at_most (compare a b) ≡ true → at_most (compare b c) ≡ true → at_most (compare a c) ≡ true
-  pub reflexive : (a : Share) → compare a a ≡ Level
-  pub rising : (a b : Share) → a.task ≡ b.task → a.whole_need ≡ b.whole_need → a.total < b.total → b.total ≤ most_counted → compare b a ≡ Above
+  pub mirrored : (a b : Share) → compare b a ≡ ordering_reverse (compare a b)
+  pub transitive : (a b c : Share) → is_le (compare a b) ≡ true → is_le (compare b c) ≡ true → is_le (compare a c) ≡ true
+  pub reflexive : (a : Share) → compare a a ≡ Equal
+  pub rising : (a b : Share) → a.task ≡ b.task → a.whole_need ≡ b.whole_need → a.total < b.total → b.total ≤ most_counted → compare b a ≡ Greater

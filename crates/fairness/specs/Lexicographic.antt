@@ -1,5 +1,5 @@
 -- Distributed lexicographic fairness, as it is defined for totals alone: what the even rule's fairest plans are.
-use Rattle.std.specs.Prelude.{◌≡◌, ℕ, zero, suc, ◌<◌, cond, ◌⊎◌, List, [], ◌∷◌, length, nat_le, slice_index, slice_index_or}
+use Rattle.std.specs.Prelude.{◌≡◌, ℕ, zero, suc, ◌<◌, cond, ◌⊎◌, List, [], ◌∷◌, length, nat_le, slice_index}
 use Rattle.fairness.specs.Plans.{Plan, total, Feasible}
 use Rattle.fairness.specs.Levels.{Fairest, Countable}
 use Rattle.fairness.specs.Even.{even}
@@ -18,7 +18,7 @@ sorted (suc n) totals = insert (totals n) (sorted n totals)
 pub record Smaller (first second : List ℕ) : Type 0 where
   pub place : ℕ
   pub inside : place < length first
-  pub less : slice_index_or first place 0 < slice_index second place
+  pub less : slice_index first place < slice_index second place
   pub before : (k : ℕ) → k < place → slice_index first k ≡ slice_index second k
 
 -- no place differs

@@ -1,10 +1,11 @@
 -- Ways to make a plan fairer: a free slot taken, and an exchange that passes one slot along a route.
 use Rattle.std.specs.Prelude.{◌≡◌, ℕ, suc, ◌+◌, ◌-◌, ◌<◌, ◌≤◌, Bool, true, ◌&&◌, ◌||◌, ◌≢◌}
+use Rattle.std.specs.declared.cmp.Ordering.{Ordering}
+use Rattle.std.specs.Ordering.{is_lt, is_eq}
 use Rattle.fairness.specs.declared.Share.{Share}
-use Rattle.fairness.specs.declared.Rank.{Rank}
 use Rattle.fairness.specs.Sums.{sum_to}
 use Rattle.fairness.specs.Plans.{Plan, given}
-use Rattle.fairness.specs.Laws.{Comparison, is_below, is_level}
+use Rattle.fairness.specs.Laws.{Comparison}
 use Rattle.fairness.specs.Levels.{share_of}
 use Rattle.fairness.specs.Moves.{slot_at, Taken}
 
@@ -33,8 +34,8 @@ fallen share = record { task = share.task; whole_need = share.whole_need; total 
 
 -- the test of an exchange, by where the gainer stands, seen from where the loser would fall to,
 -- and where the loser now stands, seen from where the gainer would rise to
-abbrev pub worthwhile : Rank → Rank → Bool
-worthwhile low high = is_below low || (is_level low && is_below high)
+abbrev pub worthwhile : Ordering → Ordering → Bool
+worthwhile low high = is_lt low || (is_eq low && is_lt high)
 
 abbrev pub should_gain : Comparison → Share → Share → Bool
 should_gain compare gainer loser = worthwhile (compare gainer (fallen loser)) (compare loser (risen gainer))

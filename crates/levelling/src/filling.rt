@@ -5,7 +5,7 @@ ghost use Rattle.board.specs.Meaning.{SameOrder, most_tasks, most_cores};
 ghost use Rattle.board.specs.Boards.{Good, Went};
 
 use board::{Board, MOST_CORES, MOST_TASKS};
-use fairness::{Rank, Share};
+use fairness::Share;
 use rules::Rule;
 
 // Each turn gives a slot or finishes a task, so there are never more.
@@ -72,11 +72,7 @@ impl Filling {
     fn stands_below<R: Rule>(&self, rule: &R, task: usize, other: usize) -> bool
         requires { (task < most_tasks) × (other < most_tasks) }
     {
-        match rule.compare(self.shares[task], self.shares[other]) {
-            Rank::Below => true,
-            Rank::Level => false,
-            Rank::Above => false,
-        }
+        rule.compare(self.shares[task], self.shares[other]).is_lt()
     }
 
     // The slots of the core that are free for the task.

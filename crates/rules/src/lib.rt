@@ -1,37 +1,27 @@
 // Rules of shares: how two tasks' shares compare.
 #![tactic(auto)]
 
-ghost use Rattle.std.specs.Prelude.{◌≡◌, ℕ, ◌<◌, ◌≤◌};
+ghost use Rattle.std.specs.Prelude.{◌≡◌, ◌*◌, ◌≤◌};
+ghost use Rattle.std.specs.Ordering.{nat_cmp};
 ghost use Rattle.fairness.specs.Laws.{Comparison, Lawful};
-ghost use Rattle.fairness.specs.Even.{even, standing, counted};
+ghost use Rattle.fairness.specs.Even.{even, counted};
 ghost use Rattle.rules.specs.Comparisons.{weighted, by_need, weight, divisor};
 ghost use Rattle.fairness.proofs.Standings.{even-lawful};
 ghost use Rattle.rules.specs.WorkedPlans.{WorkedPlansAgree};
 ghost use Rattle.rules.specs.Lawful.{weighted-lawful, by-need-lawful};
 
-use fairness::{Rank, Share};
+use fairness::Share;
+use std::cmp::Ordering;
 
-// A rule is plain and copyable, and answers from its own fixed numbers and the two shares alone.
+// A rule is plain and copyable, and answers from its own fixed numbers and the two shares alone: whether the first stands
+// below the second (`Less`), level with it (`Equal`) or above it (`Greater`).
 pub trait Rule: Copy {
     ghost order: { Self → Comparison };
 
     ghost lawful: { (rule : Self) → Lawful (order rule) };
 
-    fn compare(&self, a: Share, b: Share) -> Rank
+    fn compare(&self, a: Share, b: Share) -> Ordering
         ensures { result ≡ order self.now a b };
-}
-
-// Where one number stands, seen from another.
-fn stand(x: u32, y: u32) -> Rank
-    ensures { result ≡ standing x y }
-{
-    if x < y {
-        Rank::Below
-    } else if x == y {
-        Rank::Level
-    } else {
-        Rank::Above
-    }
 }
 
 // The slots that count: no product of two such numbers leaves 32 bits.
@@ -50,9 +40,19 @@ impl Rule for Even {
 
     ghost lawful = { λ _. even-lawful };
 
-    fn compare(&self, a: Share, b: Share) -> Rank {
-        stand(count(a.total), count(b.total))
+    fn compare(&self, a: Share, b: Share) -> Ordering {
+        count(a.total).cmp(&count(b.total))
     }
+}
+
+// Where one total over its divisor stands, seen from another: cross products tell it without a division.
+fn compare_fractions(a: Share, under_a: u32, b: Share, under_b: u32) -> Ordering
+    requires { (under_a ≤ 16000) × (under_b ≤ 16000) }
+    ensures { result ≡ nat_cmp (counted a.total * under_b) (counted b.total * under_a) }
+{
+    let left = count(a.total) * under_b;
+    let right = count(b.total) * under_a;
+    left.cmp(&right)
 }
 
 // Each task has a weight from 1 to 100: its level is its total over its weight.
@@ -81,11 +81,8 @@ impl Rule for Weighted {
 
     ghost lawful = { λ rule. weighted-lawful rule.weights };
 
-    fn compare(&self, a: Share, b: Share) -> Rank {
-        stand(
-            count(a.total) * self.weight_of(b.task),
-            count(b.total) * self.weight_of(a.task),
-        )
+    fn compare(&self, a: Share, b: Share) -> Ordering {
+        compare_fractions(a, self.weight_of(a.task), b, self.weight_of(b.task))
     }
 }
 
@@ -105,17 +102,12 @@ impl Rule for ByNeed {
 
     ghost lawful = { λ _. by-need-lawful };
 
-    fn compare(&self, a: Share, b: Share) -> Rank {
-        stand(
-            count(a.total) * divide_by(b.whole_need),
-            count(b.total) * divide_by(a.whole_need),
-        )
+    fn compare(&self, a: Share, b: Share) -> Ordering {
+        compare_fractions(a, divide_by(a.whole_need), b, divide_by(b.whole_need))
     }
 }
 
 // The definitions agree with the worked plans.
-pub fn worked_plans_agree() -> u8
+pub fn worked_plans_agree()
     ensures { WorkedPlansAgree }
-{
-    0
-}
+{}

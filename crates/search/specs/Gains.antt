@@ -1,7 +1,8 @@
 -- When a task of a board should gain a slot from another.
 use Rattle.std.specs.Prelude.{◌≡◌, ℕ, ◌<◌, Bool, true, false, ◌&&◌, ◌||◌, List, nat_lt, slice_index_or}
+use Rattle.std.specs.Ordering.{is_le, is_lt, is_eq}
 use Rattle.fairness.specs.declared.Share.{Share}
-use Rattle.fairness.specs.Laws.{Comparison, is_below, is_level, at_most}
+use Rattle.fairness.specs.Laws.{Comparison}
 use Rattle.fairness.specs.Levels.{share_of}
 use Rattle.fairness.specs.Routes.{should_gain, risen}
 use Rattle.fairness.specs.Settled.{Safe, NoneFree}
@@ -25,7 +26,7 @@ NoneFreeOn m = NoneFree m.tasks m.cores m.need m.capacity m.held
 
 -- the first share is at least as urgent as the second: it stands lower, or level with it and would rise no less
 abbrev pub as_urgent : Comparison → Share → Share → Bool
-as_urgent compare first second = is_below (compare first second) || (is_level (compare first second) && at_most (compare (risen second) (risen first)))
+as_urgent compare first second = is_lt (compare first second) || (is_eq (compare first second) && is_le (compare (risen second) (risen first)))
 
 -- each task that is flagged has nothing to gain, once no slot is free
 abbrev pub SafeFlags : Comparison → Meaning → List Bool → Type 0

@@ -12,9 +12,10 @@ ghost use Rattle.search.specs.Layers.{OpenersTo};
 ghost use Rattle.search.specs.Searches.{MayOpen, Opened, Complete, Spread, InVain, Sought, Spoken};
 
 use board::{Board, MOST_CORES, MOST_TASKS};
-use fairness::{Rank, Share};
+use fairness::Share;
 use routes::Step;
 use rules::Rule;
+use std::cmp::Ordering;
 
 // A route that makes the plan fairer: who gains a slot, who loses it, and in how many steps.
 #[derive(Clone, Copy)]
@@ -137,18 +138,18 @@ pub fn should_gain<R: Rule>(rule: &R, gainer: Share, loser: Share) -> bool
         ..loser
     };
     match rule.compare(gainer, without) {
-        Rank::Below => true,
-        Rank::Above => false,
-        Rank::Level => match rule.compare(
+        Ordering::Less => true,
+        Ordering::Greater => false,
+        Ordering::Equal => match rule.compare(
             loser,
             Share {
                 total: gainer.total + 1,
                 ..gainer
             },
         ) {
-            Rank::Below => true,
-            Rank::Level => false,
-            Rank::Above => false,
+            Ordering::Less => true,
+            Ordering::Equal => false,
+            Ordering::Greater => false,
         },
     }
 }
@@ -159,9 +160,9 @@ fn as_urgent<R: Rule>(rule: &R, first: Share, second: Share) -> bool
     ensures { result ≡ as_urgent (R.order rule.now) first second }
 {
     match rule.compare(first, second) {
-        Rank::Below => true,
-        Rank::Above => false,
-        Rank::Level => match rule.compare(
+        Ordering::Less => true,
+        Ordering::Greater => false,
+        Ordering::Equal => match rule.compare(
             Share {
                 total: second.total + 1,
                 ..second
@@ -171,9 +172,9 @@ fn as_urgent<R: Rule>(rule: &R, first: Share, second: Share) -> bool
                 ..first
             },
         ) {
-            Rank::Below => true,
-            Rank::Level => true,
-            Rank::Above => false,
+            Ordering::Less => true,
+            Ordering::Equal => true,
+            Ordering::Greater => false,
         },
     }
 }

@@ -1,11 +1,11 @@
 -- Calls one after another on one board.
 use Rattle.board.specs.Meaning.{Meaning}
-use Rattle.board.specs.Boards.{Keeping, Good, Went}
+use Rattle.board.specs.Boards.{Build, Good, Went}
 
 -- nothing was done
-pub went-nowhere : {S : Type 0} (meaning : S → Meaning) (ready : S → Type 0) (kept : S → S → Type 0) → Keeping kept → (a : S) → Good meaning ready a → Went meaning ready kept a a
-went-nowhere meaning ready kept keeping a good = record { good = good; keeps = keeping.same a }
+pub went-nowhere : {S : Type 0} (build : Build S) → (a : S) → Good build a → Went build a a
+went-nowhere build a good = record { good = good; keeps = build.keeping.same a }
 
 -- one call more
-pub went_on : {S : Type 0} (meaning : S → Meaning) (ready : S → Type 0) (kept : S → S → Type 0) → Keeping kept → (a b c : S) → Went meaning ready kept a b → Good meaning ready c → kept b c → Went meaning ready kept a c
-went_on meaning ready kept keeping a b c went good keeps = record { good = good; keeps = keeping.onward a b c went.keeps keeps }
+pub went_on : {S : Type 0} (build : Build S) → (a b c : S) → Went build a b → Good build c → build.kept b c → Went build a c
+went_on build a b c went good keeps = record { good = good; keeps = build.keeping.onward a b c went.keeps keeps }

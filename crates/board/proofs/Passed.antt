@@ -5,7 +5,7 @@ use Rattle.std.proofs.lemmas.Bool.{cond_both, ltb-false}
 use Rattle.board.specs.declared.fault.Fault.{Fault}
 use Rattle.board.specs.Meaning.{Meaning, Sound, given_at, pair_count, with_need, with_held, with_capacity, cleared}
 use Rattle.board.specs.Outcomes.{Outcome, done, refused, answered, after, set_need, set_held, set_capacity}
-use Rattle.board.specs.Boards.{Keeping, Good, Changed, Cleared}
+use Rattle.board.specs.Boards.{Build, Good, Changed, Cleared}
 use Rattle.board.proofs.Changes.{set_need-sound, set_held-sound, set_capacity-sound, cleared-sound, on-board-left, on-board-right}
 
 -- what is known of a need that passed
@@ -73,39 +73,39 @@ capacity-passed m core amount =
     (λ e. cond_both (ltb amount (given_at m core)) _ _ P (λ _ no. absurd (never _ no))
     (λ f _. record { comes = refl; on_cores = grind (arith, nat_tests); small = ltb-false _ _ e })))
 
-module _ {S : Type 0} (meaning : S → Meaning) (ready : S → Type 0) (kept : S → S → Type 0) (keeping : Keeping kept) where
+module _ {S : Type 0} (build : Build S) where
   -- the tests told a fault, which was handed on, and nothing was done
-  pub stays : (a : S) (outcome : Outcome) (r : Result (Unit {0}) Fault) (fault : Fault) → Good meaning ready a → Err fault ≡ answered outcome
-      → IsErrAnd r (λ told. told ≡ fault) → Changed meaning ready kept a a outcome r
+  pub stays : (a : S) (outcome : Outcome) (r : Result (Unit {0}) Fault) (fault : Fault) → Good build a → Err fault ≡ answered outcome
+      → IsErrAnd r (λ told. told ≡ fault) → Changed build a a outcome r
   stays a (done m) r fault good told handed = absurd (never fault (sym told))
   stays a (refused why) (Ok u) fault good told handed = absurd handed
   stays a (refused why) (Err f) fault good told handed =
-      record { told = ap Err handed ∙ told; left = refl; unchanged = refl; good = good; keeps = keeping.same a }
+      record { told = ap Err handed ∙ told; left = refl; unchanged = refl; good = good; keeps = build.keeping.same a }
 
-module _ {S : Type 0} (meaning : S → Meaning) (ready : S → Type 0) (kept : S → S → Type 0) where
+module _ {S : Type 0} (build : Build S) where
   -- the tests let the change pass, and it was done
-  changes : (a b : S) (outcome : Outcome) (m : Meaning) → outcome ≡ done m → meaning b ≡ m → ready b → Sound (after (meaning a) outcome) → kept a b
-      → Changed meaning ready kept a b outcome (Ok tt)
+  changes : (a b : S) (outcome : Outcome) (m : Meaning) → outcome ≡ done m → build.meaning b ≡ m → build.ready b → Sound (after (build.meaning a) outcome) → build.kept a b
+      → Changed build a b outcome (Ok tt)
   changes a b (done n) m comes left serves sound keeps =
       let same : n ≡ m = ap (after m) comes in
       record { told = refl; left = left ∙ sym same; unchanged = tt; good = record { serves = serves; sound = subst Sound (same ∙ sym left) sound }; keeps = keeps }
   changes a b (refused why) m comes left serves sound keeps = absurd (never _ (sym (ap answered comes)))
 
-  pub need-changes : (a b : S) (task core amount : ℕ) → Good meaning ready a → Ok tt ≡ answered (set_need (meaning a) task core amount)
-      → meaning b ≡ with_need (meaning a) task core amount → ready b → kept a b → Changed meaning ready kept a b (set_need (meaning a) task core amount) (Ok tt)
+  pub need-changes : (a b : S) (task core amount : ℕ) → Good build a → Ok tt ≡ answered (set_need (build.meaning a) task core amount)
+      → build.meaning b ≡ with_need (build.meaning a) task core amount → build.ready b → build.kept a b → Changed build a b (set_need (build.meaning a) task core amount) (Ok tt)
   need-changes a b task core amount good passed left serves keeps =
-      changes a b _ _ (need-passed (meaning a) task core amount passed).comes left serves (set_need-sound (meaning a) task core amount good.sound) keeps
+      changes a b _ _ (need-passed (build.meaning a) task core amount passed).comes left serves (set_need-sound (build.meaning a) task core amount good.sound) keeps
 
-  pub held-changes : (a b : S) (task core amount : ℕ) → Good meaning ready a → Ok tt ≡ answered (set_held (meaning a) task core amount)
-      → meaning b ≡ with_held (meaning a) task core amount → ready b → kept a b → Changed meaning ready kept a b (set_held (meaning a) task core amount) (Ok tt)
+  pub held-changes : (a b : S) (task core amount : ℕ) → Good build a → Ok tt ≡ answered (set_held (build.meaning a) task core amount)
+      → build.meaning b ≡ with_held (build.meaning a) task core amount → build.ready b → build.kept a b → Changed build a b (set_held (build.meaning a) task core amount) (Ok tt)
   held-changes a b task core amount good passed left serves keeps =
-      changes a b _ _ (held-passed (meaning a) task core amount passed).comes left serves (set_held-sound (meaning a) task core amount good.sound) keeps
+      changes a b _ _ (held-passed (build.meaning a) task core amount passed).comes left serves (set_held-sound (build.meaning a) task core amount good.sound) keeps
 
-  pub capacity-changes : (a b : S) (core amount : ℕ) → Good meaning ready a → Ok tt ≡ answered (set_capacity (meaning a) core amount)
-      → meaning b ≡ with_capacity (meaning a) core amount → ready b → kept a b → Changed meaning ready kept a b (set_capacity (meaning a) core amount) (Ok tt)
+  pub capacity-changes : (a b : S) (core amount : ℕ) → Good build a → Ok tt ≡ answered (set_capacity (build.meaning a) core amount)
+      → build.meaning b ≡ with_capacity (build.meaning a) core amount → build.ready b → build.kept a b → Changed build a b (set_capacity (build.meaning a) core amount) (Ok tt)
   capacity-changes a b core amount good passed left serves keeps =
-      changes a b _ _ (capacity-passed (meaning a) core amount passed).comes left serves (set_capacity-sound (meaning a) core amount good.sound) keeps
+      changes a b _ _ (capacity-passed (build.meaning a) core amount passed).comes left serves (set_capacity-sound (build.meaning a) core amount good.sound) keeps
 
-  pub clears : (a b : S) → Good meaning ready a → meaning b ≡ cleared (meaning a) → ready b → kept a b → Cleared meaning ready kept a b
+  pub clears : (a b : S) → Good build a → build.meaning b ≡ cleared (build.meaning a) → build.ready b → build.kept a b → Cleared build a b
   clears a b good left serves keeps =
-      record { left = left; good = record { serves = serves; sound = subst Sound (sym left) (cleared-sound (meaning a) good.sound) }; keeps = keeps }
+      record { left = left; good = record { serves = serves; sound = subst Sound (sym left) (cleared-sound (build.meaning a) good.sound) }; keeps = keeps }

@@ -2,9 +2,9 @@
 #![tactic(auto)]
 
 ghost use Rattle.std.specs.Prelude.{◌≡◌};
-ghost use Rattle.board.specs.Meaning.{Meaning, given_at, free_at, free_slots, total_of, whole_need_of, pair_count, sizes_allowed};
+ghost use Rattle.board.specs.Meaning.{given_at, free_at, free_slots, total_of, whole_need_of, pair_count, sizes_allowed};
 ghost use Rattle.board.specs.Outcomes.{answered, set_need, set_held, set_capacity};
-ghost use Rattle.board.specs.Boards.{Keeping, Good, Changed, Cleared};
+ghost use Rattle.board.specs.Boards.{Build, Good, Changed, Cleared};
 
 pub mod fault;
 
@@ -26,64 +26,56 @@ pub fn sizes_allowed(n: usize, m: usize) -> bool
 // A board holds for each task and core a need and the slots held, and for each core a capacity.
 // Each call but `tasks` and `cores` asks that the board is good, and each change leaves it so.
 pub trait Board {
-    // What the board says, whatever memory it lies in.
-    ghost meaning: { Self → Meaning };
-
-    // What the memory must be like for the calls to work.
-    ghost ready: { Self → Type 0 };
-
-    // What the meaning does not show and no call changes: whose memory it is, and what lies past the board.
-    ghost kept: { Self → Self → Type 0 };
-
-    ghost keeping: { Keeping kept };
+    // How a board of this build is read: what it says, what its memory must be like, and what no call changes.
+    ghost build: { Build Self };
 
     fn tasks(&self) -> usize
-        ensures { result ≡ (meaning self.now).tasks };
+        ensures { result ≡ (build.meaning self.now).tasks };
 
     fn cores(&self) -> usize
-        ensures { result ≡ (meaning self.now).cores };
+        ensures { result ≡ (build.meaning self.now).cores };
 
     fn capacity(&self, core: usize) -> u16
-        requires { Good meaning ready self.now }
-        ensures { result ≡ (meaning self.now).capacity core };
+        requires { Good build self.now }
+        ensures { result ≡ (build.meaning self.now).capacity core };
 
     fn need(&self, task: usize, core: usize) -> u16
-        requires { Good meaning ready self.now }
-        ensures { result ≡ (meaning self.now).need task core };
+        requires { Good build self.now }
+        ensures { result ≡ (build.meaning self.now).need task core };
 
     fn held(&self, task: usize, core: usize) -> u16
-        requires { Good meaning ready self.now }
-        ensures { result ≡ (meaning self.now).held task core };
+        requires { Good build self.now }
+        ensures { result ≡ (build.meaning self.now).held task core };
 
     fn greatest_pairs(&self) -> usize
-        requires { Good meaning ready self.now }
-        ensures { result ≡ (meaning self.now).greatest_pairs };
+        requires { Good build self.now }
+        ensures { result ≡ (build.meaning self.now).greatest_pairs };
 
     fn greatest_capacity(&self, core: usize) -> u16
-        requires { Good meaning ready self.now }
-        ensures { result ≡ (meaning self.now).greatest_capacity core };
+        requires { Good build self.now }
+        ensures { result ≡ (build.meaning self.now).greatest_capacity core };
 
     fn set_need(&mut self, task: usize, core: usize, need: u16) -> Result<(), Fault>
-        requires { Good meaning ready self.old }
-        ensures { Changed meaning ready kept self.old self.new (set_need (meaning self.old) task core need) result };
+        requires { Good build self.old }
+        ensures { Changed build self.old self.new (set_need (build.meaning self.old) task core need) result };
 
     fn set_held(&mut self, task: usize, core: usize, held: u16) -> Result<(), Fault>
-        requires { Good meaning ready self.old }
-        ensures { Changed meaning ready kept self.old self.new (set_held (meaning self.old) task core held) result };
+        requires { Good build self.old }
+        ensures { Changed build self.old self.new (set_held (build.meaning self.old) task core held) result };
 
     fn set_capacity(&mut self, core: usize, capacity: u16) -> Result<(), Fault>
-        requires { Good meaning ready self.old }
-        ensures { Changed meaning ready kept self.old self.new (set_capacity (meaning self.old) core capacity) result };
+        requires { Good build self.old }
+        ensures { Changed build self.old self.new (set_capacity (build.meaning self.old) core capacity) result };
 
     // All needs, slots and capacities become 0.
     fn clear(&mut self)
-        requires { Good meaning ready self.old }
-        ensures { Cleared meaning ready kept self.old self.new };
+        requires { Good build self.old }
+        ensures { Cleared build self.old self.new };
 
     // The slots that all tasks hold of a core. Every sum here is taken from the board: none is kept beside it.
     fn given(&self, core: usize) -> u32
-        requires { Good meaning ready self.now }
-        ensures { result ≡ given_at (meaning self.now) core }
+        requires { Good build self.now }
+        ensures { result ≡ given_at (build.meaning self.now) core }
     {
         let mut given = 0;
         for task in 0..self.tasks() {
@@ -94,16 +86,16 @@ pub trait Board {
 
     // What a core could still give.
     fn free(&self, core: usize) -> u32
-        requires { Good meaning ready self.now }
-        ensures { result ≡ free_at (meaning self.now) core }
+        requires { Good build self.now }
+        ensures { result ≡ free_at (build.meaning self.now) core }
     {
         self.capacity(core) as u32 - self.given(core)
     }
 
     // What all cores could still give.
     fn free_slots(&self) -> u32
-        requires { Good meaning ready self.now }
-        ensures { result ≡ free_slots (meaning self.now) }
+        requires { Good build self.now }
+        ensures { result ≡ free_slots (build.meaning self.now) }
     {
         let mut free = 0;
         for core in 0..self.cores() {
@@ -114,8 +106,8 @@ pub trait Board {
 
     // What a task holds over all cores.
     fn total(&self, task: usize) -> u32
-        requires { Good meaning ready self.now }
-        ensures { result ≡ total_of (meaning self.now) task }
+        requires { Good build self.now }
+        ensures { result ≡ total_of (build.meaning self.now) task }
     {
         let mut total = 0;
         for core in 0..self.cores() {
@@ -126,8 +118,8 @@ pub trait Board {
 
     // What a task needs over all cores.
     fn whole_need(&self, task: usize) -> u32
-        requires { Good meaning ready self.now }
-        ensures { result ≡ whole_need_of (meaning self.now) task }
+        requires { Good build self.now }
+        ensures { result ≡ whole_need_of (build.meaning self.now) task }
     {
         let mut whole = 0;
         for core in 0..self.cores() {
@@ -138,8 +130,8 @@ pub trait Board {
 
     // How many pairs of a task and a core have a need.
     fn pair_count(&self) -> usize
-        requires { Good meaning ready self.now }
-        ensures { result ≡ pair_count (meaning self.now) }
+        requires { Good build self.now }
+        ensures { result ≡ pair_count (build.meaning self.now) }
     {
         let mut count = 0;
         for task in 0..self.tasks() {
@@ -154,8 +146,8 @@ pub trait Board {
 
     // What `set_need` would answer; the board stays as it is. The tests and their order are the same for every board.
     fn test_need(&self, task: usize, core: usize, need: u16) -> Result<(), Fault>
-        requires { Good meaning ready self.now }
-        ensures { result ≡ answered (set_need (meaning self.now) task core need) }
+        requires { Good build self.now }
+        ensures { result ≡ answered (set_need (build.meaning self.now) task core need) }
     {
         if task >= self.tasks() || core >= self.cores() {
             return Err(Refusal::NoSuchTaskOrCore.at(0));
@@ -174,8 +166,8 @@ pub trait Board {
 
     // What `set_held` would answer.
     fn test_held(&self, task: usize, core: usize, held: u16) -> Result<(), Fault>
-        requires { Good meaning ready self.now }
-        ensures { result ≡ answered (set_held (meaning self.now) task core held) }
+        requires { Good build self.now }
+        ensures { result ≡ answered (set_held (build.meaning self.now) task core held) }
     {
         if task >= self.tasks() || core >= self.cores() {
             return Err(Refusal::NoSuchTaskOrCore.at(0));
@@ -192,8 +184,8 @@ pub trait Board {
 
     // What `set_capacity` would answer.
     fn test_capacity(&self, core: usize, capacity: u16) -> Result<(), Fault>
-        requires { Good meaning ready self.now }
-        ensures { result ≡ answered (set_capacity (meaning self.now) core capacity) }
+        requires { Good build self.now }
+        ensures { result ≡ answered (set_capacity (build.meaning self.now) core capacity) }
     {
         if core >= self.cores() {
             return Err(Refusal::NoSuchTaskOrCore.at(0));

@@ -1,7 +1,7 @@
 -- What a board of rows means, and what its rows must be like.
 use Rattle.std.specs.Prelude.{◌≡◌, ℕ, ◌*◌, ◌<◌, cond, ◌&&◌, List, [], length, nat_lt, slice_index, slice_index_or}
 use Rattle.board.specs.Meaning.{Meaning, new_board, sizes_allowed}
-use Rattle.board.specs.Boards.{Keeping, Good}
+use Rattle.board.specs.Boards.{Build, Keeping, Good}
 use Rattle.board_tests.specs.declared.row_board.Row.{Row}
 use Rattle.board_tests.specs.declared.row_board.RowBoard.{RowBoard}
 
@@ -41,6 +41,10 @@ Anyhow a b = Unit {0}
 pub anyhow-keeps : Keeping Anyhow
 anyhow-keeps = record { same = λ _. tt; onward = λ _ _ _ _ _. tt }
 
+-- how a board of rows is read
+abbrev pub row_build : Build RowBoard
+row_build = record { meaning = rows_of; ready = Whole; kept = Anyhow; keeping = anyhow-keeps }
+
 pub record Made (n m : ℕ) (board : RowBoard) : Type 0 where
-  pub good : Good rows_of Whole board
+  pub good : Good row_build board
   pub means : rows_of board ≡ cond (sizes_allowed n m) (new_board n m (n * m) greatest) (new_board 0 0 0 greatest)

@@ -23,8 +23,8 @@ pub enum Change {
 }
 
 pub fn apply<B: Board>(board: &mut B, change: Change) -> Result<(), Fault>
-    requires { Good B.meaning B.ready board.old }
-    ensures { Went B.meaning B.ready B.kept board.old board.new }
+    requires { Good B.build board.old }
+    ensures { Went B.build board.old board.new }
 {
     match change {
         Change::Need(task, core, amount) => board.set_need(task, core, amount),
@@ -43,8 +43,8 @@ pub fn number(told: Result<(), Fault>) -> u8 {
 
 // Makes the changes one by one, until one is not told what is expected: the number of a refusal, or 0.
 pub fn first_surprise<B: Board>(board: &mut B, steps: &[(Change, u8)]) -> Option<usize>
-    requires { Good B.meaning B.ready board.old }
-    ensures { Went B.meaning B.ready B.kept board.old board.new }
+    requires { Good B.build board.old }
+    ensures { Went B.build board.old board.new }
 {
     for (at, step) in steps.iter().enumerate() {
         let (change, expected) = *step;

@@ -1,5 +1,5 @@
 // A board of fixed arrays, with a row for each core; no core can be given more than 400 slots.
-ghost use Rattle.board_tests.specs.Rows.{rows_of, Whole, Anyhow, anyhow-keeps, Made};
+ghost use Rattle.board_tests.specs.Rows.{row_build, Made};
 
 use board::Board;
 use board::fault::Fault;
@@ -48,13 +48,7 @@ impl RowBoard {
 }
 
 impl Board for RowBoard {
-    ghost meaning = { rows_of };
-
-    ghost ready = { Whole };
-
-    ghost kept = { Anyhow };
-
-    ghost keeping = { anyhow-keeps };
+    ghost build = { row_build };
 
     fn tasks(&self) -> usize {
         self.tasks

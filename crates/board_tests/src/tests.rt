@@ -19,8 +19,8 @@ const BEFORE: Entry = Entry {
 
 // Each refusal of a change, with the boundary on both sides, on a clear board of 3 tasks and 2 cores.
 fn refuses_in_order<B: Board>(rt: &impl Abort, board: &mut B)
-    requires { Good B.meaning B.ready board.old }
-    ensures { Good B.meaning B.ready board.new }
+    requires { Good B.build board.old }
+    ensures { Good B.build board.new }
 {
     let most = board.greatest_capacity(1);
     let steps = [
@@ -55,7 +55,7 @@ fn refuses_in_order<B: Board>(rt: &impl Abort, board: &mut B)
 
 // What the board answers after those changes.
 fn answers<B: Board>(rt: &impl Abort, board: &B)
-    requires { Good B.meaning B.ready board.now }
+    requires { Good B.build board.now }
 {
     assert_eq!(rt; board.need(0, 0), 7);
     assert_eq!(rt; board.held(0, 0), 6);
@@ -71,7 +71,7 @@ fn answers<B: Board>(rt: &impl Abort, board: &B)
 }
 
 fn is_clear<B: Board>(rt: &impl Abort, board: &B)
-    requires { Good B.meaning B.ready board.now }
+    requires { Good B.build board.now }
 {
     assert_eq!(rt; board.pair_count(), 0);
     assert_eq!(rt; board.given(0), 0);
@@ -81,7 +81,7 @@ fn is_clear<B: Board>(rt: &impl Abort, board: &B)
 
 // One text for every build.
 fn behaves<B: Board>(rt: &impl Abort, board: &mut B)
-    requires { Good B.meaning B.ready board.old }
+    requires { Good B.build board.old }
 {
     is_clear(rt, board);
     refuses_in_order(rt, board);

@@ -119,8 +119,8 @@ fn judge_by_letter<B: Board>(
     tasks: &TaskTable,
     route: &mut [Step],
 ) -> Result<Verdict, Fault>
-    requires { Good B.meaning B.ready board.now }
-    ensures { JudgedBy letter (B.meaning board.now) (rows tasks.now) route.old route.new result }
+    requires { Good B.build board.now }
+    ensures { JudgedBy letter (B.build.meaning board.now) (rows tasks.now) route.old route.new result }
 {
     let weights = tasks.weights();
     match letter as char {
@@ -155,8 +155,8 @@ fn write_plan<B: Board, R: Rule>(
     tasks: &TaskTable,
     out: &mut [u8],
 ) -> Result<usize, Fault>
-    requires { Good B.meaning B.ready board.old }
-    ensures { PlanWritten (R.order rule) letter (B.meaning board.old) (rows tasks.now) out.old out.new result }
+    requires { Good B.build board.old }
+    ensures { PlanWritten (R.order rule) letter (B.build.meaning board.old) (rows tasks.now) out.old out.new result }
 {
     let plan = WorkingPlan::make(board, rule);
     plan.release().write(tasks, letter, out)
@@ -168,8 +168,8 @@ fn write_by_letter<B: Board>(
     tasks: &TaskTable,
     out: &mut [u8],
 ) -> Result<usize, Fault>
-    requires { Good B.meaning B.ready board.old }
-    ensures { PlanWrittenBy letter (B.meaning board.old) (rows tasks.now) out.old out.new result }
+    requires { Good B.build board.old }
+    ensures { PlanWrittenBy letter (B.build.meaning board.old) (rows tasks.now) out.old out.new result }
 {
     let weights = tasks.weights();
     match letter as char {

@@ -7,7 +7,7 @@ use Rattle.fairness.specs.Laws.{Comparison}
 use Rattle.board.specs.declared.fault.Fault.{Fault}
 use Rattle.board.specs.Meaning.{Meaning, SameOrder, planned, put, with_need, with_capacity}
 use Rattle.board.specs.Outcomes.{Outcome, done, refused, answered, after}
-use Rattle.board.specs.Boards.{Keeping}
+use Rattle.board.specs.Boards.{Build}
 use Rattle.board.proofs.Changes.{put-here}
 use Rattle.changes.proofs.Taking.{never}
 use Rattle.changes.specs.Standing.{Standing, Replanned}
@@ -34,27 +34,27 @@ capacity-moves m core amount e =
     let here : cond (eqb core core) amount (m.capacity core) ≡ amount = grind (arith, nat_tests) in
     sym here ∙ ap (λ (z : Meaning). z.capacity core) e
 
-module _ {S : Type 0} (meaning : S → Meaning) (ready : S → Type 0) (kept : S → S → Type 0) (keeping : Keeping kept) (compare : Comparison) where
+module _ {S : Type 0} (build : Build S) (compare : Comparison) where
   -- the test refused, and nothing was done
-  pub plan-stays : (a : S) (outcome : Outcome) (r : Result (Unit {0}) Fault) (fault : Fault) → Standing meaning ready compare a → Err fault ≡ answered outcome
-      → IsErrAnd r (λ told. told ≡ fault) → Replanned meaning ready kept compare a a outcome r
+  pub plan-stays : (a : S) (outcome : Outcome) (r : Result (Unit {0}) Fault) (fault : Fault) → Standing build compare a → Err fault ≡ answered outcome
+      → IsErrAnd r (λ told. told ≡ fault) → Replanned build compare a a outcome r
   plan-stays a (done m) r fault standing told handed = absurd (never fault (sym told))
   plan-stays a (refused why) (Ok u) fault standing told handed = absurd handed
   plan-stays a (refused why) (Err f) fault standing told handed =
-      record { told = ap Err handed ∙ told; order = refl; standing = standing; keeps = keeping.same a; unchanged = refl; still = λ _. refl }
+      record { told = ap Err handed ∙ told; order = refl; standing = standing; keeps = build.keeping.same a; unchanged = refl; still = λ _. refl }
 
   -- the number is what it was
-  pub plan-rests : (a : S) (outcome : Outcome) (m : Meaning) → outcome ≡ done m → m ≡ meaning a → Standing meaning ready compare a → Replanned meaning ready kept compare a a outcome (Ok tt)
+  pub plan-rests : (a : S) (outcome : Outcome) (m : Meaning) → outcome ≡ done m → m ≡ build.meaning a → Standing build compare a → Replanned build compare a a outcome (Ok tt)
   plan-rests a (done n) m comes same standing =
-      let e : n ≡ meaning a = ap (after m) comes ∙ same in
-      record { told = refl; order = ap (λ (z : Meaning). planned z (meaning a).held) (sym e); standing = standing; keeps = keeping.same a; unchanged = tt; still = λ _. refl }
+      let e : n ≡ build.meaning a = ap (after m) comes ∙ same in
+      record { told = refl; order = ap (λ (z : Meaning). planned z (build.meaning a).held) (sym e); standing = standing; keeps = build.keeping.same a; unchanged = tt; still = λ _. refl }
   plan-rests a (refused why) m comes same standing = absurd (never _ (sym (ap answered comes)))
 
   -- the number changed, and the plan was levelled
-  pub plan-moves : (a b : S) (outcome : Outcome) (m : Meaning) → outcome ≡ done m → (m ≡ meaning a → ⊥) → SameOrder m (meaning b) → Standing meaning ready compare b → kept a b
-      → Replanned meaning ready kept compare a b outcome (Ok tt)
+  pub plan-moves : (a b : S) (outcome : Outcome) (m : Meaning) → outcome ≡ done m → (m ≡ build.meaning a → ⊥) → SameOrder m (build.meaning b) → Standing build compare b → build.kept a b
+      → Replanned build compare a b outcome (Ok tt)
   plan-moves a b (done n) m comes other order standing keeps =
       let e : n ≡ m = ap (after m) comes in
-      let P : Meaning → Type 0 = λ z. SameOrder z (meaning b) in
+      let P : Meaning → Type 0 = λ z. SameOrder z (build.meaning b) in
       record { told = refl; order = subst P (sym e) order; standing = standing; keeps = keeps; unchanged = tt; still = λ no. absurd (other (sym e ∙ no)) }
   plan-moves a b (refused why) m comes other order standing keeps = absurd (never _ (sym (ap answered comes)))

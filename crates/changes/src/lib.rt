@@ -22,8 +22,8 @@ pub fn set_need<B: Board, R: Rule>(
     core: usize,
     need: u16,
 ) -> Result<(), Fault>
-    requires { Standing B.meaning B.ready (R.order rule) board.old }
-    ensures { Replanned B.meaning B.ready B.kept (R.order rule) board.old board.new (plan_need (B.meaning board.old) task core need) result }
+    requires { Standing B.build (R.order rule) board.old }
+    ensures { Replanned B.build (R.order rule) board.old board.new (plan_need (B.build.meaning board.old) task core need) result }
 {
     test_need(board, task, core, need)?;
     if board.need(task, core) != need {
@@ -39,8 +39,8 @@ pub fn set_capacity<B: Board, R: Rule>(
     core: usize,
     capacity: u16,
 ) -> Result<(), Fault>
-    requires { Standing B.meaning B.ready (R.order rule) board.old }
-    ensures { Replanned B.meaning B.ready B.kept (R.order rule) board.old board.new (plan_capacity (B.meaning board.old) core capacity) result }
+    requires { Standing B.build (R.order rule) board.old }
+    ensures { Replanned B.build (R.order rule) board.old board.new (plan_capacity (B.build.meaning board.old) core capacity) result }
 {
     test_capacity(board, core, capacity)?;
     if board.capacity(core) != capacity {
@@ -51,8 +51,8 @@ pub fn set_capacity<B: Board, R: Rule>(
 
 // Whether a plan takes the need.
 fn test_need<B: Board>(board: &B, task: usize, core: usize, need: u16) -> Result<(), Fault>
-    requires { Good B.meaning B.ready board.now }
-    ensures { result ≡ answered (plan_need (B.meaning board.now) task core need) }
+    requires { Good B.build board.now }
+    ensures { result ≡ answered (plan_need (B.build.meaning board.now) task core need) }
 {
     if task >= board.tasks() || core >= board.cores() {
         return Err(Refusal::NoSuchTaskOrCore.at(0));
@@ -68,8 +68,8 @@ fn test_need<B: Board>(board: &B, task: usize, core: usize, need: u16) -> Result
 
 // Whether a plan takes the capacity.
 fn test_capacity<B: Board>(board: &B, core: usize, capacity: u16) -> Result<(), Fault>
-    requires { Good B.meaning B.ready board.now }
-    ensures { result ≡ answered (plan_capacity (B.meaning board.now) core capacity) }
+    requires { Good B.build board.now }
+    ensures { result ≡ answered (plan_capacity (B.build.meaning board.now) core capacity) }
 {
     if core >= board.cores() {
         return Err(Refusal::NoSuchTaskOrCore.at(0));
@@ -82,11 +82,11 @@ fn test_capacity<B: Board>(board: &B, core: usize, capacity: u16) -> Result<(), 
 
 // Takes away the slots of the task at the core that are more than the need to come.
 fn fit_need<B: Board>(board: &mut B, task: usize, core: usize, need: u16)
-    requires good { Good B.meaning B.ready board.old }
-    requires task { task < (B.meaning board.old).tasks }
-    requires core { core < (B.meaning board.old).cores }
-    ensures went { Went B.meaning B.ready B.kept board.old board.new }
-    ensures fits { B.meaning board.new ≡ with_held (B.meaning board.old) task core (min ((B.meaning board.old).held task core) need) }
+    requires good { Good B.build board.old }
+    requires task { task < (B.build.meaning board.old).tasks }
+    requires core { core < (B.build.meaning board.old).cores }
+    ensures went { Went B.build board.old board.new }
+    ensures fits { B.build.meaning board.new ≡ with_held (B.build.meaning board.old) task core (min ((B.build.meaning board.old).held task core) need) }
 {
     let held = board.held(task, core);
     let _ = board.set_held(task, core, held.min(need));
@@ -94,11 +94,11 @@ fn fit_need<B: Board>(board: &mut B, task: usize, core: usize, need: u16)
 
 // Takes away slots of the core, from the first tasks on, until no more are given than the capacity to come.
 fn fit_capacity<B: Board>(board: &mut B, core: usize, capacity: u16)
-    requires good { Good B.meaning B.ready board.old }
-    requires core { core < (B.meaning board.old).cores }
-    ensures went { Went B.meaning B.ready B.kept board.old board.new }
-    ensures order { SameOrder (B.meaning board.old) (B.meaning board.new) }
-    ensures fits { given_at (B.meaning board.new) core ≤ capacity }
+    requires good { Good B.build board.old }
+    requires core { core < (B.build.meaning board.old).cores }
+    ensures went { Went B.build board.old board.new }
+    ensures order { SameOrder (B.build.meaning board.old) (B.build.meaning board.new) }
+    ensures fits { given_at (B.build.meaning board.new) core ≤ capacity }
 {
     let mut over = board.given(core).saturating_sub(capacity as u32);
     for task in 0..board.tasks() {
@@ -111,11 +111,11 @@ fn fit_capacity<B: Board>(board: &mut B, core: usize, capacity: u16)
 
 // Changes a need that a plan takes, and levels.
 fn change_need<B: Board, R: Rule>(board: &mut B, rule: R, task: usize, core: usize, need: u16)
-    requires good { Good B.meaning B.ready board.old }
-    requires taken { Ok tt ≡ answered (plan_need (B.meaning board.old) task core need) }
-    ensures went { Went B.meaning B.ready B.kept board.old board.new }
-    ensures order { SameOrder (with_need (B.meaning board.old) task core need) (B.meaning board.new) }
-    ensures fairest { FairestOn (R.order rule) (B.meaning board.new) }
+    requires good { Good B.build board.old }
+    requires taken { Ok tt ≡ answered (plan_need (B.build.meaning board.old) task core need) }
+    ensures went { Went B.build board.old board.new }
+    ensures order { SameOrder (with_need (B.build.meaning board.old) task core need) (B.build.meaning board.new) }
+    ensures fairest { FairestOn (R.order rule) (B.build.meaning board.new) }
 {
     fit_need(board, task, core, need);
     let _ = board.set_need(task, core, need);
@@ -124,11 +124,11 @@ fn change_need<B: Board, R: Rule>(board: &mut B, rule: R, task: usize, core: usi
 
 // Changes a capacity that a plan takes, and levels.
 fn change_capacity<B: Board, R: Rule>(board: &mut B, rule: R, core: usize, capacity: u16)
-    requires good { Good B.meaning B.ready board.old }
-    requires taken { Ok tt ≡ answered (plan_capacity (B.meaning board.old) core capacity) }
-    ensures went { Went B.meaning B.ready B.kept board.old board.new }
-    ensures order { SameOrder (with_capacity (B.meaning board.old) core capacity) (B.meaning board.new) }
-    ensures fairest { FairestOn (R.order rule) (B.meaning board.new) }
+    requires good { Good B.build board.old }
+    requires taken { Ok tt ≡ answered (plan_capacity (B.build.meaning board.old) core capacity) }
+    ensures went { Went B.build board.old board.new }
+    ensures order { SameOrder (with_capacity (B.build.meaning board.old) core capacity) (B.build.meaning board.new) }
+    ensures fairest { FairestOn (R.order rule) (B.build.meaning board.new) }
 {
     fit_capacity(board, core, capacity);
     let _ = board.set_capacity(core, capacity);

@@ -78,7 +78,7 @@ fn print_plan<B: Board, R: Rule>(
     state: &State<'_, B, R>,
     tasks: usize,
 ) -> io::Result<()>
-    requires { Standing B.meaning B.ready (R.order (rule_of state.now)) (lent_of state.now).now }
+    requires { Standing B.build (R.order (rule_of state.now)) (lent_of state.now).now }
 {
     let mut route = [Step { task: 0, core: 0 }; 16];
     let stand = look(state, &mut route);
@@ -92,7 +92,7 @@ fn print_line<B: Board, R: Rule>(
     state: &State<'_, B, R>,
     tasks: usize,
 ) -> io::Result<()>
-    requires { Standing B.meaning B.ready (R.order (rule_of state.now)) (lent_of state.now).now }
+    requires { Standing B.build (R.order (rule_of state.now)) (lent_of state.now).now }
 {
     print!(rt; "{line}: ")?;
     print_told(rt, told)?;
@@ -117,7 +117,7 @@ fn print_tally(rt: &HostRuntime, tally: Tally, working: bool) -> io::Result<()> 
 
 // What the board holds before a plan is made of it.
 fn print_board<B: Board, R: Rule>(rt: &HostRuntime, board: &B, rule: R) -> io::Result<()>
-    requires { Good B.meaning B.ready board.now }
+    requires { Good B.build board.now }
 {
     let mut route = [Step { task: 0, core: 0 }; 16];
     let mut totals = [0; MOST_TASKS];
@@ -135,7 +135,7 @@ fn print_board<B: Board, R: Rule>(rt: &HostRuntime, board: &B, rule: R) -> io::R
 
 // Makes the plan and follows the script to its end. What cannot be printed is told once the plan has ended.
 fn play<B: Board, R: Rule>(rt: &HostRuntime, board: &mut B, rule: R, script: &str) -> io::Result<()>
-    requires { Good B.meaning B.ready board.old }
+    requires { Good B.build board.old }
 {
     print_board(rt, board, rule)?;
     println!(rt; "plan")?;
@@ -174,7 +174,7 @@ fn play_by_letter<B: Board>(
     tasks: &TaskTable,
     script: &str,
 ) -> io::Result<()>
-    requires { Good B.meaning B.ready board.old }
+    requires { Good B.build board.old }
 {
     match letter as char {
         'e' => play(rt, board, Even, script),

@@ -2,17 +2,18 @@
 use Rattle.std.proofs.Common.{Bool, true, false, sym, subst}
 use Rattle.fairness.specs.Laws.{Comparison}
 use Rattle.board.specs.Meaning.{Meaning}
+use Rattle.board.specs.Boards.{Build}
 use Rattle.calls.specs.declared.Call.{Call}
 use Rattle.calls.specs.Turns.{in_turn}
 use Rattle.changes.specs.Standing.{Standing}
 use Rattle.plan.specs.declared.runs.Answer.{Answer}
 use Rattle.plan.specs.Attempts.{AttemptedWhere, Attempted}
 
-module _ {S : Type 0} (meaning : S → Meaning) (ready : S → Type 0) (kept : S → S → Type 0) (compare : Comparison) (a b : S) (working after : Bool) (call : Call) (answer : Answer) where
-  stands-where : (turn : Bool) → AttemptedWhere turn meaning ready kept compare a b working after call answer → Standing meaning ready compare a → Standing meaning ready compare b
+module _ {S : Type 0} (build : Build S) (compare : Comparison) (a b : S) (working after : Bool) (call : Call) (answer : Answer) where
+  stands-where : (turn : Bool) → AttemptedWhere turn build compare a b working after call answer → Standing build compare a → Standing build compare b
   stands-where true made standing = made.replanned.standing
-  stands-where false over standing = subst (Standing meaning ready compare) (sym over.board) standing
+  stands-where false over standing = subst (Standing build compare) (sym over.board) standing
 
   -- a call that was attempted leaves a plan that stands
-  pub attempt-stands : Attempted meaning ready kept compare a b working after call answer → Standing meaning ready compare a → Standing meaning ready compare b
+  pub attempt-stands : Attempted build compare a b working after call answer → Standing build compare a → Standing build compare b
   attempt-stands attempted standing = stands-where (in_turn working call) attempted standing

@@ -2,6 +2,7 @@
 use Rattle.std.specs.Prelude.{◌≡◌, ℕ, ◌+◌, ◌-◌, ◌^◌, min, Bool, List, Some, None, Option}
 use Rattle.fairness.specs.Laws.{Comparison}
 use Rattle.board.specs.Meaning.{Meaning, free_slots}
+use Rattle.board.specs.Boards.{Build}
 use Rattle.routes.specs.declared.Step.{Step}
 use Rattle.judge.specs.Verdicts.{Judged}
 use Rattle.plan.specs.declared.runs.Answer.TheVariants.{Taken, Refused, OutOfTurn}
@@ -20,12 +21,12 @@ pub record Still {S : Type 0} (a b : S) (working after : Bool) : Type 0 where
   pub state : after ≡ working
 
 -- a line that asks for a call is told what the call is told; any other leaves the plan as it is
-abbrev pub Followed : {S : Type 0} → (S → Meaning) → (S → Type 0) → (S → S → Type 0) → Comparison → S → S → Bool → Bool → Option Request → Told → Type 0
-Followed meaning ready kept compare a b working after (Some (Play call)) (Answered answer) = Attempted meaning ready kept compare a b working after call answer
-Followed meaning ready kept compare a b working after (Some (Play call)) Asked = ⊥
-Followed meaning ready kept compare a b working after (Some (Play call)) NotUnderstood = ⊥
-Followed meaning ready kept compare a b working after (Some Judge) told = (told ≡ Asked) × Still a b working after
-Followed meaning ready kept compare a b working after None told = (told ≡ NotUnderstood) × Still a b working after
+abbrev pub Followed : {S : Type 0} → Build S → Comparison → S → S → Bool → Bool → Option Request → Told → Type 0
+Followed build compare a b working after (Some (Play call)) (Answered answer) = Attempted build compare a b working after call answer
+Followed build compare a b working after (Some (Play call)) Asked = ⊥
+Followed build compare a b working after (Some (Play call)) NotUnderstood = ⊥
+Followed build compare a b working after (Some Judge) told = (told ≡ Asked) × Still a b working after
+Followed build compare a b working after None told = (told ≡ NotUnderstood) × Still a b working after
 
 -- totals, free slots and verdict are those of the plan on the board
 pub record Seen (compare : Comparison) (m : Meaning) (before after : List Step) (stand : Stand) : Type 0 where

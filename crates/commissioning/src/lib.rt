@@ -44,11 +44,11 @@ pub struct Tally {
 
 // Plays one line; where it is out of turn or not understood, nothing is done.
 pub fn follow<'a, B: Board, R: Rule>(state: State<'a, B, R>, line: &[u8]) -> (State<'a, B, R>, Told)
-    requires { Standing B.meaning B.ready (R.order (rule_of state)) (lent_of state).now }
+    requires { Standing B.build (R.order (rule_of state)) (lent_of state).now }
     ensures lent { (lent_of result.0).ghost_name ≡ (lent_of state.entry).ghost_name }
     ensures rule { rule_of result.0 ≡ rule_of state.entry }
-    ensures standing { Standing B.meaning B.ready (R.order (rule_of result.0)) (lent_of result.0).now }
-    ensures followed { Followed B.meaning B.ready B.kept (R.order (rule_of state.entry)) (lent_of state.entry).now (lent_of result.0).now (is_working state.entry) (is_working result.0) (request_of line.now) result.1 }
+    ensures standing { Standing B.build (R.order (rule_of result.0)) (lent_of result.0).now }
+    ensures followed { Followed B.build (R.order (rule_of state.entry)) (lent_of state.entry).now (lent_of result.0).now (is_working state.entry) (is_working result.0) (request_of line.now) result.1 }
 {
     match request_of(line) {
         Some(Request::Play(call)) => {
@@ -62,8 +62,8 @@ pub fn follow<'a, B: Board, R: Rule>(state: State<'a, B, R>, line: &[u8]) -> (St
 
 // Where the plan stands: its totals, its free slots and the judge's verdict on it.
 pub fn look<B: Board, R: Rule>(state: &State<'_, B, R>, route: &mut [Step]) -> Stand
-    requires { Standing B.meaning B.ready (R.order (rule_of state.now)) (lent_of state.now).now }
-    ensures { Seen (R.order (rule_of state.now)) (B.meaning (lent_of state.now).now) route.old route.new result }
+    requires { Standing B.build (R.order (rule_of state.now)) (lent_of state.now).now }
+    ensures { Seen (R.order (rule_of state.now)) (B.build.meaning (lent_of state.now).now) route.old route.new result }
 {
     match state {
         State::Working(working) => Stand {

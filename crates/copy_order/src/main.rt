@@ -38,7 +38,7 @@ fn print_order<B: Board>(
     tasks: &TaskTable,
     letter: u8,
 ) -> io::Result<()>
-    requires { Good B.meaning B.ready board.now }
+    requires { Good B.build board.now }
 {
     let letter = letter as char;
     let named = tasks.len();

@@ -24,8 +24,8 @@ pub enum Verdict {
 
 // Judges the plan that stands on the board, however it came there. A route is written to the first entries of the list.
 pub fn judge<B: Board, R: Rule>(board: &B, rule: R, route: &mut [Step]) -> Result<Verdict, Fault>
-    requires { Good B.meaning B.ready board.now }
-    ensures { Judged (R.order rule) (B.meaning board.now) route.old route.new result }
+    requires { Good B.build board.now }
+    ensures { Judged (R.order rule) (B.build.meaning board.now) route.old route.new result }
 {
     if route.len() < MOST_CORES {
         return Err(Refusal::RouteListTooShort.at(0));

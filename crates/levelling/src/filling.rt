@@ -35,7 +35,7 @@ impl Filling {
     }
 
     fn note_tasks<B: Board>(&mut self, board: &B)
-        requires { Good B.meaning B.ready board.now }
+        requires { Good B.build board.now }
     {
         for task in 0..board.tasks() {
             self.shares[task] = Share {
@@ -47,7 +47,7 @@ impl Filling {
     }
 
     fn note_cores<B: Board>(&mut self, board: &B)
-        requires { Good B.meaning B.ready board.now }
+        requires { Good B.build board.now }
     {
         for core in 0..board.cores() {
             self.free[core] = board.free(core);
@@ -77,7 +77,7 @@ impl Filling {
 
     // The slots of the core that are free for the task.
     fn free_for<B: Board>(&self, board: &B, task: usize, core: usize) -> u32
-        requires good { Good B.meaning B.ready board.now }
+        requires good { Good B.build board.now }
         requires core { core < most_cores }
     {
         if board.held(task, core) < board.need(task, core) {
@@ -89,7 +89,7 @@ impl Filling {
 
     // The core that has most slots free for the task.
     fn freest<B: Board>(&self, board: &B, task: usize) -> usize
-        requires { Good B.meaning B.ready board.now }
+        requires { Good B.build board.now }
         ensures { result < most_cores }
     {
         let mut freest = 0;
@@ -103,10 +103,10 @@ impl Filling {
 
     // The task takes an even part of what its freest core still has; where it finds nothing free, it is finished.
     fn grant<B: Board>(&mut self, board: &mut B, task: usize)
-        requires good { Good B.meaning B.ready board.old }
+        requires good { Good B.build board.old }
         requires task { task < most_tasks }
-        ensures went { Went B.meaning B.ready B.kept board.old board.new }
-        ensures order { SameOrder (B.meaning board.old) (B.meaning board.new) }
+        ensures went { Went B.build board.old board.new }
+        ensures order { SameOrder (B.build.meaning board.old) (B.build.meaning board.new) }
     {
         let core = self.freest(board, task);
         let free = self.free_for(board, task, core);
@@ -123,9 +123,9 @@ impl Filling {
 
 // The task takes what it still needs of the core, as far as that is free, but no more than `most`; answers how many.
 fn take_free<B: Board>(board: &mut B, task: usize, core: usize, most: u32) -> u32
-    requires { Good B.meaning B.ready board.old }
-    ensures went { Went B.meaning B.ready B.kept board.old board.new }
-    ensures order { SameOrder (B.meaning board.old) (B.meaning board.new) }
+    requires { Good B.build board.old }
+    ensures went { Went B.build board.old board.new }
+    ensures order { SameOrder (B.build.meaning board.old) (B.build.meaning board.new) }
 {
     let held = board.held(task, core);
     let wanted = (board.need(task, core) - held) as u32;
@@ -135,9 +135,9 @@ fn take_free<B: Board>(board: &mut B, task: usize, core: usize, most: u32) -> u3
 }
 
 pub fn give_out<B: Board, R: Rule>(board: &mut B, rule: &R)
-    requires { Good B.meaning B.ready board.old }
-    ensures went { Went B.meaning B.ready B.kept board.old board.new }
-    ensures order { SameOrder (B.meaning board.old) (B.meaning board.new) }
+    requires { Good B.build board.old }
+    ensures went { Went B.build board.old board.new }
+    ensures order { SameOrder (B.build.meaning board.old) (B.build.meaning board.new) }
 {
     let mut filling = Filling::new();
     filling.note_tasks(board);

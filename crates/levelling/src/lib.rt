@@ -27,8 +27,8 @@ pub struct FreePair {
 
 // The first free pair: the lowest core, and at that core the lowest task.
 pub fn free_pair<B: Board>(board: &B) -> Option<FreePair>
-    requires { Good B.meaning B.ready board.now }
-    ensures { FirstFree (B.meaning board.now) result }
+    requires { Good B.build board.now }
+    ensures { FirstFree (B.build.meaning board.now) result }
 {
     let mut pair = None;
     'cores: for core in 0..board.cores() {
@@ -53,9 +53,9 @@ fn improve<B: Board, R: Rule>(
     start: usize,
     steps: &mut [Step; MOST_CORES],
 ) -> Option<Found>
-    requires { Good B.meaning B.ready board.old }
-    ensures went { Went B.meaning B.ready B.kept board.old board.new }
-    ensures improved { Improved (R.order rule.now) (B.meaning board.old) (B.meaning board.new) result }
+    requires { Good B.build board.old }
+    ensures went { Went B.build board.old board.new }
+    ensures improved { Improved (R.order rule.now) (B.build.meaning board.old) (B.build.meaning board.new) result }
     ensures few { FewSteps result }
 {
     if let Some(found) = find_route(board, rule, start, steps) {
@@ -77,10 +77,10 @@ fn improve<B: Board, R: Rule>(
 // Makes the plan fairest. Each search goes on from the task that gained last, which often gains again. The first rounds pass on
 // as many slots as they can at once; should they not be enough, single slots bring the plan to its end.
 pub fn level<B: Board, R: Rule>(board: &mut B, rule: R)
-    requires { Good B.meaning B.ready board.old }
-    ensures went { Went B.meaning B.ready B.kept board.old board.new }
-    ensures order { SameOrder (B.meaning board.old) (B.meaning board.new) }
-    ensures fairest { FairestOn (R.order rule) (B.meaning board.new) }
+    requires { Good B.build board.old }
+    ensures went { Went B.build board.old board.new }
+    ensures order { SameOrder (B.build.meaning board.old) (B.build.meaning board.new) }
+    ensures fairest { FairestOn (R.order rule) (B.build.meaning board.new) }
 {
     give_out(board, &rule);
     let mut steps = [Step { task: 0, core: 0 }; MOST_CORES];

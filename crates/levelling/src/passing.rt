@@ -11,18 +11,18 @@ use rules::Rule;
 use search::{share_of, should_gain};
 
 fn set_slots<B: Board>(board: &mut B, task: usize, core: usize, held: u16)
-    requires { Good B.meaning B.ready board.old }
-    ensures went { Went B.meaning B.ready B.kept board.old board.new }
-    ensures order { SameOrder (B.meaning board.old) (B.meaning board.new) }
+    requires { Good B.build board.old }
+    ensures went { Went B.build board.old board.new }
+    ensures order { SameOrder (B.build.meaning board.old) (B.build.meaning board.new) }
 {
     let _ = board.set_held(task, core, held);
 }
 
 // The amount goes from the giver to the taker; it is given up first, so that the core is never over its capacity.
 fn shift_many<B: Board>(board: &mut B, taker: usize, core: usize, giver: usize, amount: u16)
-    requires { Good B.meaning B.ready board.old }
-    ensures went { Went B.meaning B.ready B.kept board.old board.new }
-    ensures order { SameOrder (B.meaning board.old) (B.meaning board.new) }
+    requires { Good B.build board.old }
+    ensures went { Went B.build board.old board.new }
+    ensures order { SameOrder (B.build.meaning board.old) (B.build.meaning board.new) }
 {
     let less = board.held(giver, core).saturating_sub(amount);
     let more = board.held(taker, core).saturating_add(amount);
@@ -32,7 +32,7 @@ fn shift_many<B: Board>(board: &mut B, taker: usize, core: usize, giver: usize, 
 
 // How many slots can pass along the route at once.
 fn room_along<B: Board>(board: &B, route: &[Step], loser: usize) -> u16
-    requires { Good B.meaning B.ready board.now }
+    requires { Good B.build board.now }
     ensures { result ≤ 1000 }
 {
     let mut room = MOST_SLOTS;
@@ -85,9 +85,9 @@ pub fn pass_more<B: Board, R: Rule>(
     gainer: usize,
     loser: usize,
 )
-    requires { Good B.meaning B.ready board.old }
-    ensures went { Went B.meaning B.ready B.kept board.old board.new }
-    ensures order { SameOrder (B.meaning board.old) (B.meaning board.new) }
+    requires { Good B.build board.old }
+    ensures went { Went B.build board.old board.new }
+    ensures order { SameOrder (B.build.meaning board.old) (B.build.meaning board.new) }
 {
     let room = room_along(board, route, loser);
     let amount = fair_amount(rule, share_of(board, gainer), share_of(board, loser), room);

@@ -26,9 +26,9 @@ pub fn write<B: Board>(
     letter: u8,
     out: &mut [u8],
 ) -> Result<usize, Fault>
-    requires { Good B.meaning B.ready board.now }
-    ensures told { result ≡ told (write_why letter (rows tasks.now) (B.meaning board.now) (length out.old)) (length (file_of letter (rows tasks.now) (B.meaning board.now))) }
-    ensures left { out.new ≡ left (write_why letter (rows tasks.now) (B.meaning board.now) (length out.old)) (file_of letter (rows tasks.now) (B.meaning board.now)) out.old }
+    requires { Good B.build board.now }
+    ensures told { result ≡ told (write_why letter (rows tasks.now) (B.build.meaning board.now) (length out.old)) (length (file_of letter (rows tasks.now) (B.build.meaning board.now))) }
+    ensures left { out.new ≡ left (write_why letter (rows tasks.now) (B.build.meaning board.now) (length out.old)) (file_of letter (rows tasks.now) (B.build.meaning board.now)) out.old }
 {
     let Some(_) = sharing_of(letter) else {
         return Err(Refusal::ValueOutOfBounds.at(0));
@@ -46,9 +46,9 @@ pub fn write<B: Board>(
 
 // The whole file, and its length.
 fn put_file<B: Board>(board: &B, tasks: &TaskTable, letter: u8, out: &mut [u8]) -> usize
-    requires good { Good B.meaning B.ready board.now }
-    requires sizes { length (rows tasks.now) ≡ (B.meaning board.now).tasks }
-    ensures { Put out.old out.new 0 result (file_of letter (rows tasks.now) (B.meaning board.now)) }
+    requires good { Good B.build board.now }
+    requires sizes { length (rows tasks.now) ≡ (B.build.meaning board.now).tasks }
+    ensures { Put out.old out.new 0 result (file_of letter (rows tasks.now) (B.build.meaning board.now)) }
 {
     let done = put_order(board, tasks, letter, out);
     put_end(out, done, done.records as u16).bytes
@@ -56,9 +56,9 @@ fn put_file<B: Board>(board: &B, tasks: &TaskTable, letter: u8, out: &mut [u8]) 
 
 // All but the end record.
 fn put_order<B: Board>(board: &B, tasks: &TaskTable, letter: u8, out: &mut [u8]) -> Extent
-    requires good { Good B.meaning B.ready board.now }
-    requires sizes { length (rows tasks.now) ≡ (B.meaning board.now).tasks }
-    ensures lines { Continued out.old out.new nothing result (order_lines letter (B.meaning board.now).cores (B.meaning board.now).capacity (rows tasks.now) (B.meaning board.now).need (B.meaning board.now).held) }
+    requires good { Good B.build board.now }
+    requires sizes { length (rows tasks.now) ≡ (B.build.meaning board.now).tasks }
+    ensures lines { Continued out.old out.new nothing result (order_lines letter (B.build.meaning board.now).cores (B.build.meaning board.now).capacity (rows tasks.now) (B.build.meaning board.now).need (B.build.meaning board.now).held) }
     ensures few { Few 2129 result }
 {
     let head = put_head(board, letter, out);
@@ -69,8 +69,8 @@ fn put_order<B: Board>(board: &B, tasks: &TaskTable, letter: u8, out: &mut [u8])
 }
 
 fn put_head<B: Board>(board: &B, letter: u8, out: &mut [u8]) -> Extent
-    requires { Good B.meaning B.ready board.now }
-    ensures { Continued out.old out.new nothing result (head_line letter (B.meaning board.now).tasks (B.meaning board.now).cores) }
+    requires { Good B.build board.now }
+    ensures { Continued out.old out.new nothing result (head_line letter (B.build.meaning board.now).tasks (B.build.meaning board.now).cores) }
 {
     let start = Extent {
         bytes: 0,
@@ -85,9 +85,9 @@ fn put_head<B: Board>(board: &B, letter: u8, out: &mut [u8]) -> Extent
 }
 
 fn put_cores<B: Board>(board: &B, out: &mut [u8], from: Extent) -> Extent
-    requires good { Good B.meaning B.ready board.now }
+    requires good { Good B.build board.now }
     requires few { Few 1 from }
-    ensures { Continued out.old out.new from result (each (B.meaning board.now).cores (core_line (B.meaning board.now).capacity)) }
+    ensures { Continued out.old out.new from result (each (B.build.meaning board.now).cores (core_line (B.build.meaning board.now).capacity)) }
 {
     let count = board.cores();
     let mut done = from;
@@ -136,9 +136,9 @@ fn put_task(out: &mut [u8], from: Extent, task: u8, weight: u8, name: &[u8]) -> 
 
 // The lines of a kind for all pairs, rising by task.
 fn put_pairs<B: Board>(board: &B, kind: Kind, out: &mut [u8], from: Extent) -> Extent
-    requires good { Good B.meaning B.ready board.now }
+    requires good { Good B.build board.now }
     requires few { Few 1105 from }
-    ensures { Continued out.old out.new from result (pair_lines kind (B.meaning board.now).tasks (B.meaning board.now).cores (amounts_of kind (B.meaning board.now))) }
+    ensures { Continued out.old out.new from result (pair_lines kind (B.build.meaning board.now).tasks (B.build.meaning board.now).cores (amounts_of kind (B.build.meaning board.now))) }
 {
     let count = board.tasks();
     let mut done = from;
@@ -156,10 +156,10 @@ fn put_task_pairs<B: Board>(
     out: &mut [u8],
     from: Extent,
 ) -> Extent
-    requires good { Good B.meaning B.ready board.now }
+    requires good { Good B.build board.now }
     requires known { task < 64 }
     requires few { Few 2500 from }
-    ensures { Continued out.old out.new from result (task_pairs kind (B.meaning board.now).cores (amounts_of kind (B.meaning board.now)) task) }
+    ensures { Continued out.old out.new from result (task_pairs kind (B.build.meaning board.now).cores (amounts_of kind (B.build.meaning board.now)) task) }
 {
     let count = board.cores();
     let mut done = from;
@@ -172,8 +172,8 @@ fn put_task_pairs<B: Board>(
 
 // What the lines of a kind tell: the slots that are held, or the needs.
 fn amount_of<B: Board>(board: &B, kind: Kind, task: usize, core: usize) -> u16
-    requires { Good B.meaning B.ready board.now }
-    ensures { result ≡ amounts_of kind (B.meaning board.now) task core }
+    requires { Good B.build board.now }
+    ensures { result ≡ amounts_of kind (B.build.meaning board.now) task core }
 {
     match kind {
         Kind::Slots => board.held(task, core),

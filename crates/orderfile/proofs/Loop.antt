@@ -2,7 +2,7 @@
 use Rattle.std.proofs.Common.{◌≡◌, ℕ, zero, suc, ◌+◌, ◌-◌, ◌<◌, ◌≤◌, true, false, cond, List, length, Ok, Err, Result, sym, refl, ap, ◌∙◌, arith}
 use Rattle.board.specs.declared.fault.Fault.{Fault}
 use Rattle.board.specs.Meaning.{Meaning, cleared}
-use Rattle.board.specs.Boards.{Good, Keeping}
+use Rattle.board.specs.Boards.{Build, Good}
 use Rattle.tasks.specs.Rows.{Row}
 use Rattle.records.specs.Wire.{longest_file}
 use Rattle.records.specs.Cuts.{Cut, Walk, cut_at, open_of, finish_at}
@@ -83,12 +83,12 @@ more whole s file at cut reader m rs h n e t =
     }
 
 -- the board a has become b: still good, in the same memory, with the same sizes and greatest numbers
-pub record Onward {S : Type 0} (meaning : S → Meaning) (ready : S → Type 0) (kept : S → S → Type 0) (a b : S) : Type 0 where
-  pub frame : cleared (meaning b) ≡ cleared (meaning a)
-  pub good : Good meaning ready b
-  pub keeps : kept a b
+pub record Onward {S : Type 0} (build : Build S) (a b : S) : Type 0 where
+  pub frame : cleared (build.meaning b) ≡ cleared (build.meaning a)
+  pub good : Good build b
+  pub keeps : build.kept a b
 
-pub onward : {S : Type 0} {meaning : S → Meaning} {ready : S → Type 0} {kept : S → S → Type 0} → Keeping kept → (a b c : S) → Onward meaning ready kept a b → Onward meaning ready kept b c → Onward meaning ready kept a c
+pub onward : {S : Type 0} {build : Build S} → (a b c : S) → Onward build a b → Onward build b c → Onward build a c
 onward k a b c h j = record { frame = j.frame ∙ h.frame; good = j.good; keeps = k.onward a b c h.keeps j.keeps }
 
 -- where reading leaves, the whole comes to the same

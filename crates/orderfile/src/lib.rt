@@ -45,10 +45,10 @@ pub fn sizes_are_refused_as_read() -> u8
 
 // Fills the board and the task table with what the file says, and answers its letter; refused, both are clear.
 pub fn read<B: Board>(file: &[u8], board: &mut B, tasks: &mut TaskTable) -> Result<u8, Fault>
-    requires { Good B.meaning B.ready board.old }
-    ensures read { Read B.meaning B.ready B.kept board.old board.new (rows tasks.new) (read_of (B.meaning board.old) file.now) result }
+    requires { Good B.build board.old }
+    ensures read { Read B.build board.old board.new (rows tasks.new) (read_of (B.build.meaning board.old) file.now) result }
     // It is accepted just where it is the encoding of an order that the board can hold, and then that order stands there.
-    ensures lawful { Lawful (B.meaning board.old) file.now (gave result (B.meaning board.new) (rows tasks.new)) }
+    ensures lawful { Lawful (B.build.meaning board.old) file.now (gave result (B.build.meaning board.new) (rows tasks.new)) }
 {
     board.clear();
     tasks.clear();
@@ -64,8 +64,8 @@ pub fn read<B: Board>(file: &[u8], board: &mut B, tasks: &mut TaskTable) -> Resu
 
 // Reads record after record, up to the end record and the file's last byte.
 fn read_records<B: Board>(file: &[u8], board: &mut B, tasks: &mut TaskTable) -> Result<u8, Fault>
-    requires { Good B.meaning B.ready board.old }
-    ensures { Filled B.meaning B.ready B.kept board.old board.new (rows tasks.new) (order_of (run_from (B.meaning board.old) (rows tasks.old) file.now)) result }
+    requires { Good B.build board.old }
+    ensures { Filled B.build board.old board.new (rows tasks.new) (order_of (run_from (B.build.meaning board.old) (rows tasks.old) file.now)) result }
 {
     let mut records = Records::open(file)?;
     let mut reader = Reader::new(board.tasks(), board.cores());
@@ -81,8 +81,8 @@ fn read_records<B: Board>(file: &[u8], board: &mut B, tasks: &mut TaskTable) -> 
 
 // Puts what one record says on the board or into the table.
 fn apply<B: Board>(line: Line<'_>, board: &mut B, tasks: &mut TaskTable) -> Result<(), Fault>
-    requires { Good B.meaning B.ready board.old }
-    ensures { Applied B.meaning B.ready B.kept board.old board.new (rows tasks.old) (rows tasks.new) (said_by line.entry) result }
+    requires { Good B.build board.old }
+    ensures { Applied B.build board.old board.new (rows tasks.old) (rows tasks.new) (said_by line.entry) result }
 {
     match line {
         Line::Head | Line::End => Ok(()),
@@ -101,8 +101,8 @@ fn take<B: Board>(
     board: &mut B,
     tasks: &mut TaskTable,
 ) -> Result<(), Fault>
-    requires { Good B.meaning B.ready board.old }
-    ensures { Took B.meaning B.ready B.kept board.old board.new (reading reader.old seen (B.meaning board.old) (rows tasks.old)) (plain found.entry) reader.new (rows tasks.new) result }
+    requires { Good B.build board.old }
+    ensures { Took B.build board.old board.new (reading reader.old seen (B.build.meaning board.old) (rows tasks.old)) (plain found.entry) reader.new (rows tasks.new) result }
 {
     let place = found.place;
     match reader.line(found, seen) {

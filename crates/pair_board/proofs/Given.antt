@@ -8,7 +8,7 @@ use Rattle.board.specs.Meaning.{Meaning}
 use Rattle.board.specs.Boards.{Good}
 use Rattle.pair_board.specs.declared.PairBoard.{PairBoard}
 use Rattle.pair_board.specs.Entries.{entry_at, is_for, amounts, Serving}
-use Rattle.pair_board.specs.Pairs.{pairs_of, Ready}
+use Rattle.pair_board.specs.Pairs.{pairs_of, pair_build}
 use Rattle.pair_board.proofs.Lookups.{for-pair, at-found}
 
 -- what an entry adds to a core
@@ -34,7 +34,7 @@ adds-here entries core at here = grind (arith, nat_tests)
 pub adds_none : (entries : List Entry) (core at : ℕ) → ((entry_at entries at).core ≡ core → ⊥) → adds entries core at ≡ 0
 adds_none entries core at other = grind (arith, nat_tests)
 
-pub held_low : (b : PairBoard) → Good pairs_of Ready b → (at : ℕ) → at < b.used → (entry_at b.entries.now at).held ≤ 1000
+pub held_low : (b : PairBoard) → Good pair_build b → (at : ℕ) → at < b.used → (entry_at b.entries.now at).held ≤ 1000
 held_low b good at l =
     let m : Meaning = pairs_of b in
     let e : Entry = entry_at b.entries.now at in

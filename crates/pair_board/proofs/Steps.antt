@@ -12,7 +12,7 @@ use Rattle.board.proofs.Changes.{pairs-put}
 use Rattle.pair_board.specs.declared.entry.Entry.{Entry}
 use Rattle.pair_board.specs.declared.PairBoard.{PairBoard}
 use Rattle.pair_board.specs.Entries.{entry_at, amounts, Absent, At, Serving}
-use Rattle.pair_board.specs.Pairs.{pairs, pairs_of, taken, Ready}
+use Rattle.pair_board.specs.Pairs.{pairs, taken, pair_build}
 use Rattle.pair_board.proofs.Lookups.{is-task, is-core, absent_none, at-found, put_same}
 use Rattle.pair_board.proofs.Writes.{changed, changed-serving, added, added-serving, removed, removed-serving}
 
@@ -130,7 +130,7 @@ recounted m changed task core amount tn cm is = ap (λ x. pair_count x + needed 
 pub room-left : (amount need most count : ℕ) → (ltb 0 amount && eqb need 0 && leb most count) ≡ false → 0 < amount → need ≡ 0 → count < most
 room-left amount need most count passed some none = grind (arith, nat_tests)
 
-pub in_list : (b : PairBoard) → Good pairs_of Ready b → b.used ≤ taken b
+pub in_list : (b : PairBoard) → Good pair_build b → b.used ≤ taken b
 in_list b good = omega (arith, good.serves.counted, good.sound.few_pairs)
 
 -- the capacities

@@ -1,3 +1,2 @@
 pub mod Entries
 pub mod Pairs
-pub mod Kept

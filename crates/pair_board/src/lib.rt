@@ -4,8 +4,7 @@
 ghost use Rattle.std.specs.Prelude.{◌≡◌, ◌<◌, ◌≤◌, length, MatchOption};
 ghost use Rattle.board.specs.Outcomes.{checked};
 ghost use Rattle.pair_board.specs.Entries.{entry_at, is_for, Absent, At};
-ghost use Rattle.pair_board.specs.Pairs.{pair_fits, pairs_of, Ready, Untouched, Made};
-ghost use Rattle.pair_board.specs.Kept.{untouched-keeps};
+ghost use Rattle.pair_board.specs.Pairs.{pair_fits, Made, pair_build};
 
 pub mod entry;
 
@@ -88,13 +87,7 @@ impl PairBoard<'_> {
 }
 
 impl<'a> Board for PairBoard<'a> {
-    ghost meaning = { pairs_of };
-
-    ghost ready = { Ready };
-
-    ghost kept = { Untouched };
-
-    ghost keeping = { untouched-keeps };
+    ghost build = { pair_build };
 
     fn tasks(&self) -> usize {
         self.tasks

@@ -56,8 +56,8 @@ impl<'a, B: Board, R: Rule> State<'a, B, R> {
     }
 
     pub fn totals(&self) -> [u32; MOST_TASKS]
-        requires { Standing B.meaning B.ready (R.order (rule_of self.now)) (lent_of self.now).now }
-        ensures { Totals (B.meaning (lent_of self.now).now) result }
+        requires { Standing B.build (R.order (rule_of self.now)) (lent_of self.now).now }
+        ensures { Totals (B.build.meaning (lent_of self.now).now) result }
     {
         match self {
             State::Working(plan) => plan.totals(),
@@ -81,10 +81,10 @@ pub fn attempt<'a, B: Board, R: Rule>(
     state: State<'a, B, R>,
     call: Call,
 ) -> (State<'a, B, R>, Answer)
-    requires { Standing B.meaning B.ready (R.order (rule_of state)) (lent_of state).now }
+    requires { Standing B.build (R.order (rule_of state)) (lent_of state).now }
     ensures lent { (lent_of result.0).ghost_name ≡ (lent_of state.entry).ghost_name }
     ensures rule { rule_of result.0 ≡ rule_of state.entry }
-    ensures attempted { Attempted B.meaning B.ready B.kept (R.order (rule_of state.entry)) (lent_of state.entry).now (lent_of result.0).now (is_working state.entry) (is_working result.0) call result.1 }
+    ensures attempted { Attempted B.build (R.order (rule_of state.entry)) (lent_of state.entry).now (lent_of result.0).now (is_working state.entry) (is_working result.0) call result.1 }
 {
     if !call.in_turn(state.is_working()) {
         return (state, Answer::OutOfTurn);
@@ -101,12 +101,12 @@ fn step<'a, B: Board, R: Rule>(
     state: State<'a, B, R>,
     call: Call,
 ) -> (State<'a, B, R>, Result<(), Fault>)
-    requires standing { Standing B.meaning B.ready (R.order (rule_of state)) (lent_of state).now }
+    requires standing { Standing B.build (R.order (rule_of state)) (lent_of state).now }
     requires turn { in_turn (is_working state) call ≡ true }
     ensures lent { (lent_of result.0).ghost_name ≡ (lent_of state.entry).ghost_name }
     ensures rule { rule_of result.0 ≡ rule_of state.entry }
     ensures turned { is_working result.0 ≡ turned (is_working state.entry) call }
-    ensures replanned { Replanned B.meaning B.ready B.kept (R.order (rule_of state.entry)) (lent_of state.entry).now (lent_of result.0).now (outcome_of (B.meaning (lent_of state.entry).now) call) result.1 }
+    ensures replanned { Replanned B.build (R.order (rule_of state.entry)) (lent_of state.entry).now (lent_of result.0).now (outcome_of (B.build.meaning (lent_of state.entry).now) call) result.1 }
 {
     match state {
         State::Working(mut plan) => match call {
@@ -126,11 +126,11 @@ fn step<'a, B: Board, R: Rule>(
 
 // Plays a legal list of calls.
 fn play<B: Board, R: Rule>(board: &mut B, rule: R, calls: &[Call], notes: &mut [Note])
-    requires good { Good B.meaning B.ready board.old }
+    requires good { Good B.build board.old }
     requires legal { Legal calls.now }
     requires room { length calls.now ≤ length notes.old }
-    ensures went { Went B.meaning B.ready B.kept board.old board.new }
-    ensures ran { Ran (R.order rule) (B.meaning board.old) calls.now notes.new (B.meaning board.new) }
+    ensures went { Went B.build board.old board.new }
+    ensures ran { Ran (R.order rule) (B.build.meaning board.old) calls.now notes.new (B.build.meaning board.new) }
     ensures rest { NotesPast (length calls.now) notes.old notes.new }
 {
     let mut state = State::Working(WorkingPlan::make(board, rule));
@@ -150,9 +150,9 @@ pub fn run<B: Board, R: Rule>(
     calls: &[Call],
     notes: &mut [Note],
 ) -> Result<(), RunRefusal>
-    requires { Good B.meaning B.ready board.old }
-    ensures went { Went B.meaning B.ready B.kept board.old board.new }
-    ensures told { RunTold B.meaning (R.order rule) board.old board.new calls.now notes.old notes.new result }
+    requires { Good B.build board.old }
+    ensures went { Went B.build board.old board.new }
+    ensures told { RunTold B.build.meaning (R.order rule) board.old board.new calls.now notes.old notes.new result }
 {
     if let Some(place) = first_out_of_turn(calls) {
         return Err(RunRefusal::NotLegal(place));

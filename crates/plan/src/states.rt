@@ -19,8 +19,8 @@ pub struct ReleasedPlan<'a, B, R> {
 
 // The totals of all tasks on a board.
 fn totals_on<B: Board>(board: &B) -> [u32; MOST_TASKS]
-    requires { Good B.meaning B.ready board.now }
-    ensures { Totals (B.meaning board.now) result }
+    requires { Good B.build board.now }
+    ensures { Totals (B.build.meaning board.now) result }
 {
     let mut totals = [0; MOST_TASKS];
     for task in 0..MOST_TASKS {

@@ -34,9 +34,9 @@ fn show_plan<B: Board, R: Rule>(
     rule: R,
     tasks: &TaskTable,
 ) -> Result<Vec<u8>, AllocError>
-    requires good { Good B.meaning B.ready board.old }
-    requires listed { length (rows tasks.now) ≡ (B.meaning board.old).tasks }
-    ensures { IfOk result (λ text. Shown (R.order rule) (B.meaning board.old) (rows tasks.now) text.items) }
+    requires good { Good B.build board.old }
+    requires listed { length (rows tasks.now) ≡ (B.build.meaning board.old).tasks }
+    ensures { IfOk result (λ text. Shown (R.order rule) (B.build.meaning board.old) (rows tasks.now) text.items) }
 {
     let plan = WorkingPlan::make(board, rule);
     let totals = plan.totals();
@@ -53,9 +53,9 @@ pub fn show_by_letter<B: Board>(
     letter: u8,
     tasks: &TaskTable,
 ) -> Result<Vec<u8>, AllocError>
-    requires good { Good B.meaning B.ready board.old }
-    requires listed { length (rows tasks.now) ≡ (B.meaning board.old).tasks }
-    ensures { IfOk result (λ text. ShownBy letter (B.meaning board.old) (rows tasks.now) text.items) }
+    requires good { Good B.build board.old }
+    requires listed { length (rows tasks.now) ≡ (B.build.meaning board.old).tasks }
+    ensures { IfOk result (λ text. ShownBy letter (B.build.meaning board.old) (rows tasks.now) text.items) }
 {
     let weights = tasks.weights();
     match letter as char {

@@ -8,6 +8,7 @@ use Rattle.board.specs.declared.fault.Refusal.TheVariants.{SizesDiffer, OutputTo
 use Rattle.fairness.specs.Sums.{sum_to}
 use Rattle.fairness.specs.Plans.{given}
 use Rattle.board.specs.Meaning.{Meaning, Sound, needed}
+use Rattle.board.specs.Boards.{Build}
 use Rattle.tasks.specs.declared.table.TaskTable.{TaskTable}
 use Rattle.tasks.specs.Rows.{Row, sound}
 use Rattle.tasks.specs.Table.{rows}
@@ -86,11 +87,11 @@ copied-not : (file before : List ℕ) (r : Result ℕ Fault) (fault : Fault) (o 
 copied-not file before r fault (Ok order) e d = let z : ◌≡◌ {A = ℕ} 0 1 = cc in absurd (omega arith)
 copied-not file before r fault (Err why) e d = (d ∙ e, refl)
 
-pub not-copied : {S : Type 0} {meaning : S → Meaning} {ready : S → Type 0} {kept : S → S → Type 0} (a b : S) (file : List ℕ) (rs : List Row) (before : List ℕ) (answer r : Result ℕ Fault) (fault : Fault) → LawfullyRead meaning ready kept a b file rs answer → answer ≡ Err fault → r ≡ Err fault → Rewritten meaning ready kept a b file rs before before r
+pub not-copied : {S : Type 0} {build : Build S} (a b : S) (file : List ℕ) (rs : List Row) (before : List ℕ) (answer r : Result ℕ Fault) (fault : Fault) → LawfullyRead build a b file rs answer → answer ≡ Err fault → r ≡ Err fault → Rewritten build a b file rs before before r
 not-copied {meaning = meaning} a b file rs before answer r fault read e d = record {
   filled = read.read.left;
   listed = read.read.listed;
-  copied = copied-not file before r fault (read_of (meaning a) file) (sym e ∙ read.read.told) d;
+  copied = copied-not file before r fault (read_of (build.meaning a) file) (sym e ∙ read.read.told) d;
   good = read.read.good;
   keeps = read.read.keeps;
 }
@@ -100,16 +101,16 @@ copied-so : (file before after : List ℕ) (r : Result ℕ Fault) (letter : ℕ)
 copied-so file before after r letter (Ok order) e d f = (d, f)
 copied-so file before after r letter (Err fault) e d f = let z : ◌≡◌ {A = ℕ} 0 1 = cc in absurd (omega arith)
 
-pub so-copied : {S : Type 0} {meaning : S → Meaning} {ready : S → Type 0} {kept : S → S → Type 0} (a b : S) (file : List ℕ) (rs : List Row) (before after : List ℕ) (answer r : Result ℕ Fault) (letter : ℕ) → LawfullyRead meaning ready kept a b file rs answer → answer ≡ Ok letter → r ≡ told (write_why letter rs (meaning b) (length before)) (length (file_of letter rs (meaning b))) → after ≡ left (write_why letter rs (meaning b) (length before)) (file_of letter rs (meaning b)) before → Rewritten meaning ready kept a b file rs before after r
+pub so-copied : {S : Type 0} {build : Build S} (a b : S) (file : List ℕ) (rs : List Row) (before after : List ℕ) (answer r : Result ℕ Fault) (letter : ℕ) → LawfullyRead build a b file rs answer → answer ≡ Ok letter → r ≡ told (write_why letter rs (build.meaning b) (length before)) (length (file_of letter rs (build.meaning b))) → after ≡ left (write_why letter rs (build.meaning b) (length before)) (file_of letter rs (build.meaning b)) before → Rewritten build a b file rs before after r
 so-copied {meaning = meaning} a b file rs before after answer r letter read e d f =
-    let order : Order = record { letter = letter; board = meaning b; rows = rs } in
-    let law : Lawful (meaning a) file (Ok order) = subst (λ x. Lawful (meaning a) file (gave x (meaning b) rs)) e read.lawful in
+    let order : Order = record { letter = letter; board = build.meaning b; rows = rs } in
+    let law : Lawful (build.meaning a) file (Ok order) = subst (λ x. Lawful (build.meaning a) file (gave x (build.meaning b) rs)) e read.lawful in
     let same = sym law.1 in
-    let why : write_why letter rs (meaning b) (length before) ≡ room_for file before = writes-valid (meaning a) order law.0 (length before) ∙ ap (λ x. room_for x before) same in
+    let why : write_why letter rs (build.meaning b) (length before) ≡ room_for file before = writes-valid (build.meaning a) order law.0 (length before) ∙ ap (λ x. room_for x before) same in
     record {
       filled = read.read.left;
       listed = read.read.listed;
-      copied = copied-so file before after r letter (read_of (meaning a) file) (sym e ∙ read.read.told) (d ∙ (λ i. told (why i) (length (same i)))) (f ∙ (λ i. left (why i) (same i) before));
+      copied = copied-so file before after r letter (read_of (build.meaning a) file) (sym e ∙ read.read.told) (d ∙ (λ i. told (why i) (length (same i)))) (f ∙ (λ i. left (why i) (same i) before));
       good = read.read.good;
       keeps = read.read.keeps;
     }
@@ -132,24 +133,24 @@ writable letter rs first room e =
     record { known = passed-known letter later e; some = grind (arith, nat_tests); listed = grind (arith, nat_tests) }
 
 -- what a board can hold is there once it was read
-pub same-there : {S : Type 0} {meaning : S → Meaning} {ready : S → Type 0} {kept : S → S → Type 0} → EncodingsRead → (first : Meaning) (letter : ℕ) (rs : List Row) (a b : S) (second-rs : List Row) (r : Result ℕ Fault) → Sound first → Sound (meaning a) → sound rs ≡ true → Writable letter rs first → LawfullyRead meaning ready kept a b (file_of letter rs first) second-rs r → CanHold (meaning a) first → Same first (meaning a) (meaning b) letter rs second-rs r
+pub same-there : {S : Type 0} {build : Build S} → EncodingsRead → (first : Meaning) (letter : ℕ) (rs : List Row) (a b : S) (second-rs : List Row) (r : Result ℕ Fault) → Sound first → Sound (build.meaning a) → sound rs ≡ true → Writable letter rs first → LawfullyRead build a b (file_of letter rs first) second-rs r → CanHold (build.meaning a) first → Same first (build.meaning a) (build.meaning b) letter rs second-rs r
 same-there {meaning = meaning} law first letter rs a b second-rs r here there fine can read holds =
-    let order : Order = record { letter = letter; board = carried (meaning a) first; rows = rs } in
-    let valid = carried-valid (meaning a) first there here holds letter rs can.known can.some can.listed fine in
-    let e : read_of (meaning a) (file_of letter rs first) ≡ Ok order = ap (read_of (meaning a)) (sym (carried-file (meaning a) first holds letter rs)) ∙ law (meaning a) order valid in
-    record { told = read.read.told ∙ ap outcome_letter e; left = read.read.left ∙ ap (board_of (meaning a)) e; listed = read.read.listed ∙ ap rows_of e }
+    let order : Order = record { letter = letter; board = carried (build.meaning a) first; rows = rs } in
+    let valid = carried-valid (build.meaning a) first there here holds letter rs can.known can.some can.listed fine in
+    let e : read_of (build.meaning a) (file_of letter rs first) ≡ Ok order = ap (read_of (build.meaning a)) (sym (carried-file (build.meaning a) first holds letter rs)) ∙ law (build.meaning a) order valid in
+    record { told = read.read.told ∙ ap outcome_letter e; left = read.read.left ∙ ap (board_of (build.meaning a)) e; listed = read.read.listed ∙ ap rows_of e }
 
-module _ {S : Type 0} (meaning : S → Meaning) (ready : S → Type 0) (kept : S → S → Type 0) (first : Meaning) (letter : ℕ) (rs : List Row) (a b : S) (table table-after : TaskTable) (before after : List ℕ) where
-  pub not_written : (why : Option Refusal) (fault : Fault) (r : Result ℕ Fault) → told why (length (file_of letter rs first)) ≡ Err fault → r ≡ Err fault → after ≡ left why (file_of letter rs first) before → b ≡ a → table-after ≡ table → Carried meaning ready kept why first letter rs a b table table-after before after r
+module _ {S : Type 0} (build : Build S) (first : Meaning) (letter : ℕ) (rs : List Row) (a b : S) (table table-after : TaskTable) (before after : List ℕ) where
+  pub not_written : (why : Option Refusal) (fault : Fault) (r : Result ℕ Fault) → told why (length (file_of letter rs first)) ≡ Err fault → r ≡ Err fault → after ≡ left why (file_of letter rs first) before → b ≡ a → table-after ≡ table → Carried build why first letter rs a b table table-after before after r
   not_written None fault r e d f g h = let z : ◌≡◌ {A = ℕ} 0 1 = cc in absurd (omega arith)
   not_written (Some why) fault r e d f g h = (d ∙ sym e, g, h, f)
 
-  pub so-written : EncodingsRead → (why : Option Refusal) → write_why letter rs first (length before) ≡ why → (n : ℕ) (r : Result ℕ Fault) → told why (length (file_of letter rs first)) ≡ Ok n → after ≡ left why (file_of letter rs first) before → Sound first → Sound (meaning a) → sound rs ≡ true → LawfullyRead meaning ready kept a b (take (n - 0) (drop 0 after)) (rows table-after) r → Carried meaning ready kept why first letter rs a b table table-after before after r
+  pub so-written : EncodingsRead → (why : Option Refusal) → write_why letter rs first (length before) ≡ why → (n : ℕ) (r : Result ℕ Fault) → told why (length (file_of letter rs first)) ≡ Ok n → after ≡ left why (file_of letter rs first) before → Sound first → Sound (build.meaning a) → sound rs ≡ true → LawfullyRead build a b (take (n - 0) (drop 0 after)) (rows table-after) r → Carried build why first letter rs a b table table-after before after r
   so-written law (Some why) q n r e f here there fine read = let z : ◌≡◌ {A = ℕ} 0 1 = cc in absurd (omega arith)
   so-written law None q n r e f here there fine read =
       let long : length (file_of letter rs first) ≡ n = cc in
       let part : take (n - 0) (drop 0 after) ≡ file_of letter rs first = ap (λ k. take k after) (omega arith) ∙ ap (take n) f ∙ take_at (file_of letter rs first) (drop (length (file_of letter rs first)) before) n long in
-      let there-read = subst (λ x. LawfullyRead meaning ready kept a b x (rows table-after) r) part read in
+      let there-read = subst (λ x. LawfullyRead build a b x (rows table-after) r) part read in
       record {
         written = f;
         read = there-read;

@@ -5,7 +5,7 @@ use Rattle.board.specs.declared.fault.Refusal.{Refusal}
 use Rattle.board.specs.declared.fault.Refusal.TheVariants.{OutputTooShort}
 use Rattle.board.specs.Refusals.{fault_at}
 use Rattle.board.specs.Meaning.{Meaning, pair_count}
-use Rattle.board.specs.Boards.{Good}
+use Rattle.board.specs.Boards.{Build, Good}
 use Rattle.tasks.specs.declared.table.TaskTable.{TaskTable}
 use Rattle.tasks.specs.Rows.{Row}
 use Rattle.tasks.specs.Table.{rows}
@@ -24,13 +24,13 @@ Copied file before after r (Ok order) = (r ≡ told (room_for file before) (leng
 Copied file before after r (Err fault) = (r ≡ Err fault) × (after ≡ before)
 
 -- the file was read onto the board a, which became b, and written again into an output
-pub record Rewritten {S : Type 0} (meaning : S → Meaning) (ready : S → Type 0) (kept : S → S → Type 0) (a b : S) (file : List ℕ) (rs : List Row) (before after : List ℕ) (r : Result ℕ Fault) : Type 0 where
+pub record Rewritten {S : Type 0} (build : Build S) (a b : S) (file : List ℕ) (rs : List Row) (before after : List ℕ) (r : Result ℕ Fault) : Type 0 where
   -- board and table hold what the file says, or are clear
-  pub filled : meaning b ≡ board_of (meaning a) (read_of (meaning a) file)
-  pub listed : rs ≡ rows_of (read_of (meaning a) file)
-  pub copied : Copied file before after r (read_of (meaning a) file)
-  pub good : Good meaning ready b
-  pub keeps : kept a b
+  pub filled : build.meaning b ≡ board_of (build.meaning a) (read_of (build.meaning a) file)
+  pub listed : rs ≡ rows_of (read_of (build.meaning a) file)
+  pub copied : Copied file before after r (read_of (build.meaning a) file)
+  pub good : Good build b
+  pub keeps : build.kept a b
 
 -- the second board can hold all that the first has: their sizes are equal, it has pairs enough, and no capacity is beyond its greatest
 pub record CanHold (second first : Meaning) : Type 0 where
@@ -58,12 +58,12 @@ pub record Same (first second-before second-after : Meaning) (letter : ℕ) (rs 
   pub listed : second-rs ≡ rs
 
 -- what stands on the first board and in its table was written, and read from there onto the second board a, which became b, with its table
-pub record Delivered {S : Type 0} (meaning : S → Meaning) (ready : S → Type 0) (kept : S → S → Type 0) (first : Meaning) (letter : ℕ) (rs : List Row) (a b : S) (second-rs : List Row) (before after : List ℕ) (r : Result ℕ Fault) : Type 0 where
+pub record Delivered {S : Type 0} (build : Build S) (first : Meaning) (letter : ℕ) (rs : List Row) (a b : S) (second-rs : List Row) (before after : List ℕ) (r : Result ℕ Fault) : Type 0 where
   pub written : after ≡ fronted (file_of letter rs first) before
-  pub read : LawfullyRead meaning ready kept a b (file_of letter rs first) second-rs r
-  pub same : CanHold (meaning a) first → Same first (meaning a) (meaning b) letter rs second-rs r
+  pub read : LawfullyRead build a b (file_of letter rs first) second-rs r
+  pub same : CanHold (build.meaning a) first → Same first (build.meaning a) (build.meaning b) letter rs second-rs r
 
 -- refused in writing, nothing is touched
-abbrev pub Carried : {S : Type 0} (meaning : S → Meaning) (ready : S → Type 0) (kept : S → S → Type 0) → Option Refusal → Meaning → ℕ → List Row → S → S → TaskTable → TaskTable → List ℕ → List ℕ → Result ℕ Fault → Type 0
-Carried meaning ready kept (Some why) first letter rs a b table table-after before after r = (r ≡ Err (fault_at why 0)) × (b ≡ a) × (table-after ≡ table) × (after ≡ before)
-Carried meaning ready kept None first letter rs a b table table-after before after r = Delivered meaning ready kept first letter rs a b (rows table-after) before after r
+abbrev pub Carried : {S : Type 0} (build : Build S) → Option Refusal → Meaning → ℕ → List Row → S → S → TaskTable → TaskTable → List ℕ → List ℕ → Result ℕ Fault → Type 0
+Carried build (Some why) first letter rs a b table table-after before after r = (r ≡ Err (fault_at why 0)) × (b ≡ a) × (table-after ≡ table) × (after ≡ before)
+Carried build None first letter rs a b table table-after before after r = Delivered build first letter rs a b (rows table-after) before after r

@@ -20,8 +20,8 @@ pub fn read_and_write<B: Board>(
     tasks: &mut TaskTable,
     out: &mut [u8],
 ) -> Result<usize, Fault>
-    requires { Good B.meaning B.ready board.old }
-    ensures { Rewritten B.meaning B.ready B.kept board.old board.new file.now (rows tasks.new) out.old out.new result }
+    requires { Good B.build board.old }
+    ensures { Rewritten B.build board.old board.new file.now (rows tasks.new) out.old out.new result }
 {
     let letter = read(file, board, tasks)?;
     write(board, tasks, letter, out)
@@ -36,10 +36,10 @@ pub fn write_and_read<A: Board, B: Board>(
     second: &mut B,
     second_tasks: &mut TaskTable,
 ) -> Result<u8, Fault>
-    requires first { Good A.meaning A.ready first.now }
-    requires second { Good B.meaning B.ready second.old }
-    ensures went { Went B.meaning B.ready B.kept second.old second.new }
-    ensures carried { Carried B.meaning B.ready B.kept (write_why letter (rows tasks.now) (A.meaning first.now) (length out.old)) (A.meaning first.now) letter (rows tasks.now) second.old second.new second_tasks.old second_tasks.new out.old out.new result }
+    requires first { Good A.build first.now }
+    requires second { Good B.build second.old }
+    ensures went { Went B.build second.old second.new }
+    ensures carried { Carried B.build (write_why letter (rows tasks.now) (A.build.meaning first.now) (length out.old)) (A.build.meaning first.now) letter (rows tasks.now) second.old second.new second_tasks.old second_tasks.new out.old out.new result }
 {
     let length = write(first, tasks, letter, out)?;
     read(&out[0..length], second, second_tasks)

@@ -16,10 +16,10 @@ pub struct Step {
 
 // A slot of the core goes from the giver to the taker: it is given up first, so that the core is never over its capacity.
 fn shift<B: Board>(board: &mut B, taker: usize, core: usize, giver: usize)
-    requires good { Good B.meaning B.ready board.old }
-    requires may { MayShift (B.meaning board.old) taker core giver }
-    ensures went { Went B.meaning B.ready B.kept board.old board.new }
-    ensures shifted { Shifted (B.meaning board.old) (B.meaning board.new) taker core giver }
+    requires good { Good B.build board.old }
+    requires may { MayShift (B.build.meaning board.old) taker core giver }
+    ensures went { Went B.build board.old board.new }
+    ensures shifted { Shifted (B.build.meaning board.old) (B.build.meaning board.new) taker core giver }
 {
     let less = board.held(giver, core) - 1;
     let more = board.held(taker, core) + 1;
@@ -29,10 +29,10 @@ fn shift<B: Board>(board: &mut B, taker: usize, core: usize, giver: usize)
 
 // One slot goes from the loser along the route to its first task.
 pub fn exchange<B: Board>(board: &mut B, route: &[Step], loser: usize)
-    requires good { Good B.meaning B.ready board.old }
-    requires route { RouteTo (B.meaning board.old) route.now loser }
-    ensures went { Went B.meaning B.ready B.kept board.old board.new }
-    ensures passed { PassedAlong (B.meaning board.old) (B.meaning board.new) route.now loser }
+    requires good { Good B.build board.old }
+    requires route { RouteTo (B.build.meaning board.old) route.now loser }
+    ensures went { Went B.build board.old board.new }
+    ensures passed { PassedAlong (B.build.meaning board.old) (B.build.meaning board.new) route.now loser }
 {
     let mut giver = loser;
     for i in (0..route.len()).rev() {

@@ -3,7 +3,7 @@ use Rattle.std.specs.Prelude.{◌≡◌, ℕ, ◌+◌, ◌<◌, ◌≤◌, List,
 use Rattle.fairness.specs.Laws.{Comparison}
 use Rattle.fairness.specs.Levels.{SameLevels}
 use Rattle.board.specs.Meaning.{Meaning, total_of}
-use Rattle.board.specs.Boards.{Went}
+use Rattle.board.specs.Boards.{Build, Went}
 use Rattle.routes.specs.declared.Step.{Step}
 use Rattle.judge.specs.Verdicts.{Judged}
 use Rattle.calls.specs.declared.Call.{Call}
@@ -13,11 +13,11 @@ use Rattle.schedule.specs.declared.Ending.{Ending}
 use Rattle.schedule.specs.declared.TwoEndings.{TwoEndings}
 
 -- the calls made b of a, or were refused and left it; and the judge looked at b
-pub record Ended {S : Type 0} (meaning : S → Meaning) (ready : S → Type 0) (kept : S → S → Type 0) (compare : Comparison) (a b : S)
+pub record Ended {S : Type 0} (build : Build S) (compare : Comparison) (a b : S)
     (calls : List Call) (notes written : List Note) (route shown : List Step) (ending : Ending) : Type 0 where
-  pub went : Went meaning ready kept a b
-  pub told : RunTold meaning compare a b calls notes written ending.run
-  pub judged : Judged compare (meaning b) route shown ending.verdict
+  pub went : Went build a b
+  pub told : RunTold build.meaning compare a b calls notes written ending.run
+  pub judged : Judged compare (build.meaning b) route shown ending.verdict
 
 -- two boards of the same sizes, with the same needs and capacities
 pub record SameNumbers (a b : Meaning) : Type 0 where

@@ -36,8 +36,8 @@ pub fn run_and_judge<B: Board, R: Rule>(
     notes: &mut [Note],
     route: &mut [Step],
 ) -> Ending
-    requires { Good B.meaning B.ready board.old }
-    ensures { Ended B.meaning B.ready B.kept (R.order rule) board.old board.new calls.now notes.old notes.new route.old route.new result }
+    requires { Good B.build board.old }
+    ensures { Ended B.build (R.order rule) board.old board.new calls.now notes.old notes.new route.old route.new result }
 {
     let run = run(board, rule, calls, notes);
     let verdict = judge(board, rule, route);
@@ -57,11 +57,11 @@ pub fn compare_runs<A: Board, B: Board, R: Rule>(
     first_route: &mut [Step],
     second_route: &mut [Step],
 ) -> TwoEndings
-    requires first { Good A.meaning A.ready first.old }
-    requires second { Good B.meaning B.ready second.old }
-    ensures first { Ended A.meaning A.ready A.kept (R.order rule) first.old first.new first_calls.now first_notes.old first_notes.new first_route.old first_route.new result.first }
-    ensures second { Ended B.meaning B.ready B.kept (R.order rule) second.old second.new second_calls.now second_notes.old second_notes.new second_route.old second_route.new result.second }
-    ensures alike { EndAlike (R.order rule) (A.meaning first.new) (B.meaning second.new) result }
+    requires first { Good A.build first.old }
+    requires second { Good B.build second.old }
+    ensures first { Ended A.build (R.order rule) first.old first.new first_calls.now first_notes.old first_notes.new first_route.old first_route.new result.first }
+    ensures second { Ended B.build (R.order rule) second.old second.new second_calls.now second_notes.old second_notes.new second_route.old second_route.new result.second }
+    ensures alike { EndAlike (R.order rule) (A.build.meaning first.new) (B.build.meaning second.new) result }
 {
     let first = run_and_judge(first, rule, first_calls, first_notes, first_route);
     let second = run_and_judge(second, rule, second_calls, second_notes, second_route);
@@ -74,10 +74,10 @@ pub fn run_evenly<B: Board>(
     calls: &[Call],
     notes: &mut [Note],
 ) -> Result<(), RunRefusal>
-    requires { Good B.meaning B.ready board.old }
-    ensures went { Went B.meaning B.ready B.kept board.old board.new }
-    ensures told { RunTold B.meaning even board.old board.new calls.now notes.old notes.new result }
-    ensures fair { result ≡ Ok tt → RanEvenly (B.meaning board.old) calls.now notes.new (B.meaning board.new) }
+    requires { Good B.build board.old }
+    ensures went { Went B.build board.old board.new }
+    ensures told { RunTold B.build.meaning even board.old board.new calls.now notes.old notes.new result }
+    ensures fair { result ≡ Ok tt → RanEvenly (B.build.meaning board.old) calls.now notes.new (B.build.meaning board.new) }
 {
     run(board, Even, calls, notes)
 }

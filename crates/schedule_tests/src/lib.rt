@@ -14,8 +14,8 @@ use tasks::table::TaskTable;
 
 // Gives the board its capacities, and the first tasks their needs at its first two cores.
 pub fn fill<B: Board>(board: &mut B, capacities: [u16; 2], needs: &[[u16; 2]])
-    requires { Good B.meaning B.ready board.old }
-    ensures { Good B.meaning B.ready board.new }
+    requires { Good B.build board.old }
+    ensures { Good B.build board.new }
 {
     let _ = board.set_capacity(0, capacities[0]);
     let _ = board.set_capacity(1, capacities[1]);
@@ -27,8 +27,8 @@ pub fn fill<B: Board>(board: &mut B, capacities: [u16; 2], needs: &[[u16; 2]])
 
 // Each task holds the slot of one core and needs that of the next; the last holds three.
 pub fn chain<B: Board>(board: &mut B)
-    requires { Good B.meaning B.ready board.old }
-    ensures { Good B.meaning B.ready board.new }
+    requires { Good B.build board.old }
+    ensures { Good B.build board.new }
 {
     for core in 0..16 {
         let _ = board.set_capacity(core, 1);
@@ -44,8 +44,8 @@ pub fn chain<B: Board>(board: &mut B)
 // Each task holds the slot of one core and needs that of the next; the first holds none, and the last holds two.
 // Only the route over all cores makes the plan fairer.
 pub fn chain_of_ones<B: Board>(board: &mut B)
-    requires { Good B.meaning B.ready board.old }
-    ensures { Good B.meaning B.ready board.new }
+    requires { Good B.build board.old }
+    ensures { Good B.build board.new }
 {
     for core in 0..16 {
         let _ = board.set_capacity(core, 1);
@@ -60,7 +60,7 @@ pub fn chain_of_ones<B: Board>(board: &mut B)
 
 // The totals of the first four tasks on the plan that is made, and the free slots.
 pub fn planned<B: Board, R: Rule>(board: &mut B, rule: R) -> ([u32; 4], u32)
-    requires { Good B.meaning B.ready board.old }
+    requires { Good B.build board.old }
 {
     let plan = WorkingPlan::make(board, rule);
     let totals = [plan.total(0), plan.total(1), plan.total(2), plan.total(3)];
@@ -71,8 +71,8 @@ pub fn planned<B: Board, R: Rule>(board: &mut B, rule: R) -> ([u32; 4], u32)
 
 // Gives the first tasks the slots at the first two cores, in place of all that they held there.
 pub fn hold<B: Board>(board: &mut B, slots: &[[u16; 2]])
-    requires { Good B.meaning B.ready board.old }
-    ensures { Good B.meaning B.ready board.new }
+    requires { Good B.build board.old }
+    ensures { Good B.build board.new }
 {
     for task in 0..slots.len() {
         let _ = board.set_held(task, 0, 0);
@@ -92,7 +92,7 @@ pub fn written<B: Board, R: Rule>(
     letter: u8,
     out: &mut [u8],
 ) -> Result<usize, Fault>
-    requires { Good B.meaning B.ready board.old }
+    requires { Good B.build board.old }
 {
     let plan = WorkingPlan::make(board, rule).release();
     plan.write(tasks, letter, out)

@@ -83,9 +83,9 @@ impl Search {
 
 // The task at the place, which still needs slots of the core, opens it: each task that holds one of them is found.
 fn open_core<B: Board>(board: &B, search: &mut Search, place: usize, core: usize)
-    requires good { Good B.meaning B.ready board.now }
-    requires start { MayOpen (B.meaning board.now) search.old place core }
-    ensures { Opened (B.meaning board.now) search.old search.new place core }
+    requires good { Good B.build board.now }
+    requires start { MayOpen (B.build.meaning board.now) search.old place core }
+    ensures { Opened (B.build.meaning board.now) search.old search.new place core }
 {
     let opening = search.opens;
     search.enter(place, core);
@@ -98,11 +98,11 @@ fn open_core<B: Board>(board: &B, search: &mut Search, place: usize, core: usize
 
 // The task at the place opens each core of which it still needs slots.
 fn open_wanted<B: Board>(board: &B, search: &mut Search, place: usize)
-    requires good { Good B.meaning B.ready board.now }
-    requires complete { Complete (B.meaning board.now) search.old }
+    requires good { Good B.build board.now }
+    requires complete { Complete (B.build.meaning board.now) search.old }
     requires place { place < search.old.count }
     requires latest { OpenersTo search.old place }
-    ensures { Spread (B.meaning board.now) search.old search.new place (B.meaning board.now).cores }
+    ensures { Spread (B.build.meaning board.now) search.old search.new place (B.build.meaning board.now).cores }
 {
     let task = search.tasks[place];
     for core in 0..board.cores() {
@@ -114,8 +114,8 @@ fn open_wanted<B: Board>(board: &B, search: &mut Search, place: usize)
 
 // What a rule is told of the task.
 pub fn share_of<B: Board>(board: &B, task: usize) -> Share
-    requires { Good B.meaning B.ready board.now }
-    ensures is { result ≡ share_on (B.meaning board.now) task }
+    requires { Good B.build board.now }
+    ensures is { result ≡ share_on (B.build.meaning board.now) task }
     ensures small { result.total ≤ 16000 }
 {
     Share {
@@ -186,10 +186,10 @@ fn search_from<B: Board, R: Rule>(
     gainer: usize,
     search: &mut Search,
 ) -> Option<usize>
-    requires good { Good B.meaning B.ready board.now }
-    requires gainer { gainer < (B.meaning board.now).tasks }
-    ensures sought { Sought (R.order rule.now) (B.meaning board.now) gainer search.new result }
-    ensures spoken { Spoken (R.order rule.now) (B.meaning board.now) gainer search.new result }
+    requires good { Good B.build board.now }
+    requires gainer { gainer < (B.build.meaning board.now).tasks }
+    ensures sought { Sought (R.order rule.now) (B.build.meaning board.now) gainer search.new result }
+    ensures spoken { Spoken (R.order rule.now) (B.build.meaning board.now) gainer search.new result }
 {
     *search = Search::new();
     search.reach(gainer, 0);
@@ -248,10 +248,10 @@ fn flag_safe<B: Board, R: Rule>(
     search: &Search,
     safe: &mut [bool; MOST_TASKS],
 )
-    requires good { Good B.meaning B.ready board.now }
-    requires vain { NoneFreeOn (B.meaning board.now) → InVain (R.order rule.now) (B.meaning board.now) gainer search.now }
-    requires flags { SafeFlags (R.order rule.now) (B.meaning board.now) safe.old }
-    ensures { SafeFlags (R.order rule.now) (B.meaning board.now) safe.new }
+    requires good { Good B.build board.now }
+    requires vain { NoneFreeOn (B.build.meaning board.now) → InVain (R.order rule.now) (B.build.meaning board.now) gainer search.now }
+    requires flags { SafeFlags (R.order rule.now) (B.build.meaning board.now) safe.old }
+    ensures { SafeFlags (R.order rule.now) (B.build.meaning board.now) safe.new }
 {
     let share = share_of(board, gainer);
     for task in 0..board.tasks() {
@@ -272,12 +272,12 @@ fn route_from<B: Board, R: Rule>(
     steps: &mut [Step],
     safe: &mut [bool; MOST_TASKS],
 ) -> Option<Found>
-    requires good { Good B.meaning B.ready board.now }
-    requires gainer { gainer < (B.meaning board.now).tasks }
+    requires good { Good B.build board.now }
+    requires gainer { gainer < (B.build.meaning board.now).tasks }
     requires room { most_cores ≤ length steps.old }
-    requires flags { SafeFlags (R.order rule.now) (B.meaning board.now) safe.old }
-    ensures searched { Searched (R.order rule.now) (B.meaning board.now) gainer (gainer + 1) steps.old steps.new result }
-    ensures flags { SafeFlags (R.order rule.now) (B.meaning board.now) safe.new }
+    requires flags { SafeFlags (R.order rule.now) (B.build.meaning board.now) safe.old }
+    ensures searched { Searched (R.order rule.now) (B.build.meaning board.now) gainer (gainer + 1) steps.old steps.new result }
+    ensures flags { SafeFlags (R.order rule.now) (B.build.meaning board.now) safe.new }
 {
     let mut search = Search::new();
     let Some(place) = search_from(board, rule, gainer, &mut search) else {
@@ -301,12 +301,12 @@ fn route_among<B: Board, R: Rule>(
     steps: &mut [Step],
     safe: &mut [bool; MOST_TASKS],
 ) -> Option<Found>
-    requires good { Good B.meaning B.ready board.now }
-    requires tasks { to ≤ (B.meaning board.now).tasks }
+    requires good { Good B.build board.now }
+    requires tasks { to ≤ (B.build.meaning board.now).tasks }
     requires room { most_cores ≤ length steps.old }
-    requires flags { SafeFlags (R.order rule.now) (B.meaning board.now) safe.old }
-    ensures searched { Searched (R.order rule.now) (B.meaning board.now) from to steps.old steps.new result }
-    ensures flags { SafeFlags (R.order rule.now) (B.meaning board.now) safe.new }
+    requires flags { SafeFlags (R.order rule.now) (B.build.meaning board.now) safe.old }
+    ensures searched { Searched (R.order rule.now) (B.build.meaning board.now) from to steps.old steps.new result }
+    ensures flags { SafeFlags (R.order rule.now) (B.build.meaning board.now) safe.new }
 {
     for gainer in from..to {
         if safe[gainer] {
@@ -327,9 +327,9 @@ pub fn find_route<B: Board, R: Rule>(
     start: usize,
     steps: &mut [Step],
 ) -> Option<Found>
-    requires good { Good B.meaning B.ready board.now }
+    requires good { Good B.build board.now }
     requires room { most_cores ≤ length steps.old }
-    ensures { Searched (R.order rule.now) (B.meaning board.now) 0 (B.meaning board.now).tasks steps.old steps.new result }
+    ensures { Searched (R.order rule.now) (B.build.meaning board.now) 0 (B.build.meaning board.now).tasks steps.old steps.new result }
 {
     let tasks = board.tasks();
     let first = if start < tasks { start } else { 0 };

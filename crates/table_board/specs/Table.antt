@@ -1,8 +1,9 @@
 -- What a table board means, what its memory must be like, and whose it is.
-use Rattle.std.specs.Prelude.{◌≡◌, ℕ, ◌*◌, ◌≤◌, cond, List, length, drop}
+use Rattle.std.specs.Prelude.{◌≡◌, refl, ℕ, ◌*◌, ◌≤◌, cond, List, length, drop}
 use Rattle.std.specs.Borrow.{MutBor}
+use Rattle.std.proofs.Common.{◌∙◌}
 use Rattle.board.specs.Meaning.{Meaning, most_slots, new_board}
-use Rattle.board.specs.Boards.{Good}
+use Rattle.board.specs.Boards.{Build, Keeping, Good}
 use Rattle.table_board.specs.Cells.{numbers, table_fits, table}
 use Rattle.table_board.specs.declared.TableBoard.{TableBoard}
 
@@ -24,9 +25,25 @@ pub record Untouched (a b : TableBoard) : Type 0 where
   pub same_tasks : b.tasks ≡ a.tasks
   pub same_cores : b.cores ≡ a.cores
 
+-- what is untouched over any number of calls is untouched
+pub untouched-keeps : Keeping Untouched
+untouched-keeps = record {
+  same = λ a. record { whose = refl; past = refl; same_tasks = refl; same_cores = refl };
+  onward = λ a b c p q. record {
+    whose = q.whose ∙ p.whose;
+    past = rw (p.same_tasks, p.same_cores) at q.past ∙ p.past;
+    same_tasks = q.same_tasks ∙ p.same_tasks;
+    same_cores = q.same_cores ∙ p.same_cores;
+  };
+}
+
+-- how such a board is read
+abbrev pub table_build : Build TableBoard
+table_build = record { meaning = table_of; ready = Long; kept = Untouched; keeping = untouched-keeps }
+
 -- a board just made: clear where it can be made, and else empty; it lies in the lent memory, and the numbers past it are as they were
 pub record Made (n m : ℕ) (lent : MutBor (List ℕ)) (board : TableBoard) : Type 0 where
-  pub good : Good table_of Long board
+  pub good : Good table_build board
   pub means : table_of board ≡ cond (table_fits n m (length lent.now)) (new_board n m (n * m) most_slots) (new_board 0 0 0 most_slots)
   pub whose : board.cells.ghost_name ≡ lent.ghost_name
   pub past : drop (taken board) board.cells.now ≡ drop (taken board) lent.now

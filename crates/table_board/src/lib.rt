@@ -4,8 +4,7 @@
 ghost use Rattle.std.specs.Prelude.{◌≡◌, ◌≤◌, length};
 ghost use Rattle.board.specs.Outcomes.{checked};
 ghost use Rattle.table_board.specs.Cells.{Wiped, table_fits};
-ghost use Rattle.table_board.specs.Table.{table_of, Long, Untouched, Made};
-ghost use Rattle.table_board.specs.Kept.{untouched-keeps};
+ghost use Rattle.table_board.specs.Table.{Made, table_build};
 
 use board::fault::{Fault, Refusal};
 use board::{Board, MOST_SLOTS};
@@ -60,13 +59,7 @@ impl<'a> TableBoard<'a> {
 }
 
 impl<'a> Board for TableBoard<'a> {
-    ghost meaning = { table_of };
-
-    ghost ready = { Long };
-
-    ghost kept = { Untouched };
-
-    ghost keeping = { untouched-keeps };
+    ghost build = { table_build };
 
     fn tasks(&self) -> usize {
         self.tasks

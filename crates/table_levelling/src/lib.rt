@@ -19,12 +19,12 @@ const TABLE_NUMBERS: usize = 2064;
 
 // Gives each core of the clear board `to` the capacity that it has on `from`.
 fn copy_capacities<A: Board, B: Board>(from: &A, to: &mut B)
-    requires from { Good A.meaning A.ready from.now }
-    requires to { Good B.meaning B.ready to.old }
-    requires room { Roomy (A.meaning from.now) (B.meaning to.old) }
-    requires clear { B.meaning to.old ≡ ordered (B.meaning to.old) (λ _. 0) (λ _ _. 0) }
-    ensures went { Went B.meaning B.ready B.kept to.old to.new }
-    ensures copied { B.meaning to.new ≡ ordered (B.meaning to.old) (A.meaning from.now).capacity (λ _ _. 0) }
+    requires from { Good A.build from.now }
+    requires to { Good B.build to.old }
+    requires room { Roomy (A.build.meaning from.now) (B.build.meaning to.old) }
+    requires clear { B.build.meaning to.old ≡ ordered (B.build.meaning to.old) (λ _. 0) (λ _ _. 0) }
+    ensures went { Went B.build to.old to.new }
+    ensures copied { B.build.meaning to.new ≡ ordered (B.build.meaning to.old) (A.build.meaning from.now).capacity (λ _ _. 0) }
 {
     for core in 0..from.cores() {
         let _ = to.set_capacity(core, from.capacity(core));
@@ -33,13 +33,13 @@ fn copy_capacities<A: Board, B: Board>(from: &A, to: &mut B)
 
 // Gives a task that needs nothing on `to` the needs that it has on `from`.
 fn copy_task_needs<A: Board, B: Board>(from: &A, to: &mut B, task: usize)
-    requires from { Good A.meaning A.ready from.now }
-    requires to { Good B.meaning B.ready to.old }
-    requires room { Roomy (A.meaning from.now) (B.meaning to.old) }
-    requires task { task < (A.meaning from.now).tasks }
-    requires clear { B.meaning to.old ≡ ordered (B.meaning to.old) (B.meaning to.old).capacity (tasks_to (A.meaning from.now).need (λ _ _. 0) task) }
-    ensures went { Went B.meaning B.ready B.kept to.old to.new }
-    ensures copied { B.meaning to.new ≡ ordered (B.meaning to.old) (B.meaning to.old).capacity (tasks_to (A.meaning from.now).need (λ _ _. 0) (task + 1)) }
+    requires from { Good A.build from.now }
+    requires to { Good B.build to.old }
+    requires room { Roomy (A.build.meaning from.now) (B.build.meaning to.old) }
+    requires task { task < (A.build.meaning from.now).tasks }
+    requires clear { B.build.meaning to.old ≡ ordered (B.build.meaning to.old) (B.build.meaning to.old).capacity (tasks_to (A.build.meaning from.now).need (λ _ _. 0) task) }
+    ensures went { Went B.build to.old to.new }
+    ensures copied { B.build.meaning to.new ≡ ordered (B.build.meaning to.old) (B.build.meaning to.old).capacity (tasks_to (A.build.meaning from.now).need (λ _ _. 0) (task + 1)) }
 {
     for core in 0..from.cores() {
         let _ = to.set_need(task, core, from.need(task, core));
@@ -48,12 +48,12 @@ fn copy_task_needs<A: Board, B: Board>(from: &A, to: &mut B, task: usize)
 
 // Gives each task of `to`, where nobody needs anything yet, the needs that it has on `from`.
 fn copy_needs<A: Board, B: Board>(from: &A, to: &mut B)
-    requires from { Good A.meaning A.ready from.now }
-    requires to { Good B.meaning B.ready to.old }
-    requires room { Roomy (A.meaning from.now) (B.meaning to.old) }
-    requires clear { B.meaning to.old ≡ ordered (B.meaning to.old) (B.meaning to.old).capacity (λ _ _. 0) }
-    ensures went { Went B.meaning B.ready B.kept to.old to.new }
-    ensures copied { B.meaning to.new ≡ ordered (B.meaning to.old) (B.meaning to.old).capacity (A.meaning from.now).need }
+    requires from { Good A.build from.now }
+    requires to { Good B.build to.old }
+    requires room { Roomy (A.build.meaning from.now) (B.build.meaning to.old) }
+    requires clear { B.build.meaning to.old ≡ ordered (B.build.meaning to.old) (B.build.meaning to.old).capacity (λ _ _. 0) }
+    ensures went { Went B.build to.old to.new }
+    ensures copied { B.build.meaning to.new ≡ ordered (B.build.meaning to.old) (B.build.meaning to.old).capacity (A.build.meaning from.now).need }
 {
     for task in 0..from.tasks() {
         copy_task_needs(from, to, task);
@@ -62,9 +62,9 @@ fn copy_needs<A: Board, B: Board>(from: &A, to: &mut B)
 
 // Sets the slots of a pair. Where they are so already nothing is asked of the board, since a set call adds up the core's slots.
 fn set_slots<B: Board>(board: &mut B, task: usize, core: usize, held: u16)
-    requires { Good B.meaning B.ready board.old }
-    ensures went { Went B.meaning B.ready B.kept board.old board.new }
-    ensures left { B.meaning board.new ≡ after (B.meaning board.old) (set_held (B.meaning board.old) task core held) }
+    requires { Good B.build board.old }
+    ensures went { Went B.build board.old board.new }
+    ensures left { B.build.meaning board.new ≡ after (B.build.meaning board.old) (set_held (B.build.meaning board.old) task core held) }
 {
     if board.held(task, core) != held {
         let _ = board.set_held(task, core, held);
@@ -73,11 +73,11 @@ fn set_slots<B: Board>(board: &mut B, task: usize, core: usize, held: u16)
 
 // Takes from a task on `to` what it holds there above what it holds on `from`.
 fn lower_task<A: Board, B: Board>(from: &A, to: &mut B, task: usize)
-    requires from { Good A.meaning A.ready from.now }
-    requires to { Good B.meaning B.ready to.old }
-    requires task { task < (B.meaning to.old).tasks }
-    ensures went { Went B.meaning B.ready B.kept to.old to.new }
-    ensures lowered { B.meaning to.new ≡ planned (B.meaning to.old) (row_to (lesser (A.meaning from.now).held (B.meaning to.old).held) (B.meaning to.old).held task (B.meaning to.old).cores) }
+    requires from { Good A.build from.now }
+    requires to { Good B.build to.old }
+    requires task { task < (B.build.meaning to.old).tasks }
+    ensures went { Went B.build to.old to.new }
+    ensures lowered { B.build.meaning to.new ≡ planned (B.build.meaning to.old) (row_to (lesser (A.build.meaning from.now).held (B.build.meaning to.old).held) (B.build.meaning to.old).held task (B.build.meaning to.old).cores) }
 {
     for core in 0..to.cores() {
         let least = from.held(task, core).min(to.held(task, core));
@@ -87,10 +87,10 @@ fn lower_task<A: Board, B: Board>(from: &A, to: &mut B, task: usize)
 
 // Takes from each task on `to` what it holds there above what it holds on `from`.
 fn lower_slots<A: Board, B: Board>(from: &A, to: &mut B)
-    requires from { Good A.meaning A.ready from.now }
-    requires to { Good B.meaning B.ready to.old }
-    ensures went { Went B.meaning B.ready B.kept to.old to.new }
-    ensures lowered { B.meaning to.new ≡ planned (B.meaning to.old) (lesser (A.meaning from.now).held (B.meaning to.old).held) }
+    requires from { Good A.build from.now }
+    requires to { Good B.build to.old }
+    ensures went { Went B.build to.old to.new }
+    ensures lowered { B.build.meaning to.new ≡ planned (B.build.meaning to.old) (lesser (A.build.meaning from.now).held (B.build.meaning to.old).held) }
 {
     for task in 0..to.tasks() {
         lower_task(from, to, task);
@@ -99,13 +99,13 @@ fn lower_slots<A: Board, B: Board>(from: &A, to: &mut B)
 
 // Gives a task on `to`, which holds no more there, the slots that it holds on `from`.
 fn raise_task<A: Board, B: Board>(from: &A, to: &mut B, task: usize)
-    requires from { Good A.meaning A.ready from.now }
-    requires to { Good B.meaning B.ready to.old }
-    requires task { task < (B.meaning to.old).tasks }
-    requires holds { Holds (A.meaning from.now) (B.meaning to.old) }
-    requires above { Above (A.meaning from.now) (B.meaning to.old) }
-    ensures went { Went B.meaning B.ready B.kept to.old to.new }
-    ensures raised { B.meaning to.new ≡ planned (B.meaning to.old) (row_to (A.meaning from.now).held (B.meaning to.old).held task (B.meaning to.old).cores) }
+    requires from { Good A.build from.now }
+    requires to { Good B.build to.old }
+    requires task { task < (B.build.meaning to.old).tasks }
+    requires holds { Holds (A.build.meaning from.now) (B.build.meaning to.old) }
+    requires above { Above (A.build.meaning from.now) (B.build.meaning to.old) }
+    ensures went { Went B.build to.old to.new }
+    ensures raised { B.build.meaning to.new ≡ planned (B.build.meaning to.old) (row_to (A.build.meaning from.now).held (B.build.meaning to.old).held task (B.build.meaning to.old).cores) }
 {
     for core in 0..to.cores() {
         set_slots(to, task, core, from.held(task, core));
@@ -114,12 +114,12 @@ fn raise_task<A: Board, B: Board>(from: &A, to: &mut B, task: usize)
 
 // Gives each task on `to`, none of which holds more there, the slots that it holds on `from`.
 fn raise_slots<A: Board, B: Board>(from: &A, to: &mut B)
-    requires from { Good A.meaning A.ready from.now }
-    requires to { Good B.meaning B.ready to.old }
-    requires holds { Holds (A.meaning from.now) (B.meaning to.old) }
-    requires above { Above (A.meaning from.now) (B.meaning to.old) }
-    ensures went { Went B.meaning B.ready B.kept to.old to.new }
-    ensures raised { B.meaning to.new ≡ planned (B.meaning to.old) (A.meaning from.now).held }
+    requires from { Good A.build from.now }
+    requires to { Good B.build to.old }
+    requires holds { Holds (A.build.meaning from.now) (B.build.meaning to.old) }
+    requires above { Above (A.build.meaning from.now) (B.build.meaning to.old) }
+    ensures went { Went B.build to.old to.new }
+    ensures raised { B.build.meaning to.new ≡ planned (B.build.meaning to.old) (A.build.meaning from.now).held }
 {
     for task in 0..to.tasks() {
         raise_task(from, to, task);
@@ -128,11 +128,11 @@ fn raise_slots<A: Board, B: Board>(from: &A, to: &mut B)
 
 // Brings the plan of `from` to `to`: first all slots that fall, then all that rise, so that `to` stays feasible in between.
 fn bring_slots<A: Board, B: Board>(from: &A, to: &mut B)
-    requires from { Good A.meaning A.ready from.now }
-    requires to { Good B.meaning B.ready to.old }
-    requires holds { Holds (A.meaning from.now) (B.meaning to.old) }
-    ensures went { Went B.meaning B.ready B.kept to.old to.new }
-    ensures brought { B.meaning to.new ≡ planned (B.meaning to.old) (A.meaning from.now).held }
+    requires from { Good A.build from.now }
+    requires to { Good B.build to.old }
+    requires holds { Holds (A.build.meaning from.now) (B.build.meaning to.old) }
+    ensures went { Went B.build to.old to.new }
+    ensures brought { B.build.meaning to.new ≡ planned (B.build.meaning to.old) (A.build.meaning from.now).held }
 {
     lower_slots(from, to);
     raise_slots(from, to);
@@ -140,10 +140,10 @@ fn bring_slots<A: Board, B: Board>(from: &A, to: &mut B)
 
 // Makes the plan on the board fairest. It is levelled on a table, where each number is found at once, and its slots are brought back.
 pub fn level_on_table<B: Board, R: Rule>(board: &mut B, rule: R)
-    requires { Good B.meaning B.ready board.old }
-    ensures went { Went B.meaning B.ready B.kept board.old board.new }
-    ensures order { SameOrder (B.meaning board.old) (B.meaning board.new) }
-    ensures fairest { FairestOn (R.order rule) (B.meaning board.new) }
+    requires { Good B.build board.old }
+    ensures went { Went B.build board.old board.new }
+    ensures order { SameOrder (B.build.meaning board.old) (B.build.meaning board.new) }
+    ensures fairest { FairestOn (R.order rule) (B.build.meaning board.new) }
 {
     let mut cells = [0; TABLE_NUMBERS];
     let mut table = TableBoard::make(board.tasks(), board.cores(), &mut cells);

@@ -61,7 +61,7 @@ fn print_board<B: Board, R: Rule>(
     rule: R,
     one_route: bool,
 ) -> io::Result<()>
-    requires { Good B.meaning B.ready board.now }
+    requires { Good B.build board.now }
 {
     print!(rt; "held")?;
     for task in 0..board.tasks() {
@@ -76,7 +76,7 @@ fn print_board<B: Board, R: Rule>(
 
 // Which of several fairest plans is made is open, so its totals are told from the lowest on.
 fn print_made<B: Board, R: Rule>(rt: &HostRuntime, board: &mut B, rule: R) -> io::Result<()>
-    requires { Good B.meaning B.ready board.old }
+    requires { Good B.build board.old }
 {
     let tasks = board.tasks();
     let plan = WorkingPlan::make(board, rule);
@@ -100,7 +100,7 @@ fn show_on<B: Board, R: Rule>(
     rule: R,
     case: Case<'_>,
 ) -> io::Result<()>
-    requires { Good B.meaning B.ready board.old }
+    requires { Good B.build board.old }
 {
     fill(board, case.capacities, case.needs);
     for slots in case.judged {

@@ -7,8 +7,8 @@ use Rattle.changes.proofs.fit_capacity.Goals as goal
 pub loop-task-init : goal.loop-task-init
 loop-task-init g c =
     let b = g.B.Board in
-    let m : Meaning = b.meaning c.args.board.now in (
-      went-nowhere b.meaning b.ready b.kept b.keeping c.args.board.now c.requires.good,
+    let m : Meaning = b.build.meaning c.args.board.now in (
+      went-nowhere b.build c.args.board.now c.requires.good,
       refl,
       fitting-start m c.args.core c.args.capacity c.saturating_sub-over.result (c.saturating_sub-over.ensures ∙ ap (λ z. z - c.args.capacity) c.given.ensures),
     )
@@ -16,25 +16,25 @@ loop-task-init g c =
 pub loop-task-preserved : goal.loop-task-preserved
 loop-task-preserved g c =
     let b = g.B.Board in
-    let old : Meaning = b.meaning c.args.board.now in
-    let m : Meaning = b.meaning c.loop-task.board in
+    let old : Meaning = b.build.meaning c.args.board.now in
+    let m : Meaning = b.build.meaning c.loop-task.board in
     let so = c.loop-task.invariant.0.good.sound in
     let tasks : m.tasks ≡ old.tasks = ap (λ (z : Meaning). z.tasks) c.loop-task.invariant.1 in
     let cores : m.cores ≡ old.cores = ap (λ (z : Meaning). z.cores) c.loop-task.invariant.1 in
     let tn : c.loop-task.task < m.tasks = omega (arith, tasks, c.tasks-task-end.ensures, c.loop-task-test.true) in
     let cm : c.args.core < m.cores = omega (arith, cores, c.requires.core) in
     let left = c.saturating_sub-left.ensures in (
-      went_on b.meaning b.ready b.kept b.keeping c.args.board.now c.loop-task.board c.set_held.new.self c.loop-task.invariant.0 c.set_held.ensures.good c.set_held.ensures.keeps,
-      order-held old m (b.meaning c.set_held.new.self) c.loop-task.task c.args.core c.saturating_sub-left.result so tn cm (omega (arith, left, c.held-held.ensures)) c.set_held.ensures.left c.loop-task.invariant.1,
-      fitting-more m (b.meaning c.set_held.new.self) c.args.core c.args.capacity c.loop-task.over c.loop-task.task c.held-held.result c.saturating_sub-left.result
+      went_on b.build c.args.board.now c.loop-task.board c.set_held.new.self c.loop-task.invariant.0 c.set_held.ensures.good c.set_held.ensures.keeps,
+      order-held old m (b.build.meaning c.set_held.new.self) c.loop-task.task c.args.core c.saturating_sub-left.result so tn cm (omega (arith, left, c.held-held.ensures)) c.set_held.ensures.left c.loop-task.invariant.1,
+      fitting-more m (b.build.meaning c.set_held.new.self) c.args.core c.args.capacity c.loop-task.over c.loop-task.task c.held-held.result c.saturating_sub-left.result
           so tn cm c.held-held.ensures left c.set_held.ensures.left c.loop-task.invariant.2,
     )
 
 pub returns : goal.returns
 returns g c =
     let b = g.B.Board in
-    let m : Meaning = b.meaning c.loop-task.board in
-    let tasks : m.tasks ≡ (b.meaning c.args.board.now).tasks = ap (λ (z : Meaning). z.tasks) c.loop-task.invariant.1 in
+    let m : Meaning = b.build.meaning c.loop-task.board in
+    let tasks : m.tasks ≡ (b.build.meaning c.args.board.now).tasks = ap (λ (z : Meaning). z.tasks) c.loop-task.invariant.1 in
     record {
       went = c.loop-task.invariant.0;
       order = c.loop-task.invariant.1;

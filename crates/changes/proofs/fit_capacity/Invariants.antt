@@ -6,5 +6,5 @@ use Rattle.changes.proofs.fit_capacity.Given as goal
 abbrev pub invariant-loop-task : goal.invariant-loop-task
 invariant-loop-task g l =
     let b = g.B.Board in
-    Went b.meaning b.ready b.kept l.initial.board l.board × SameOrder (b.meaning l.initial.board) (b.meaning l.board)
-    × Fitting (b.meaning l.board) l.core l.capacity l.over l.task
+    Went b.build l.initial.board l.board × SameOrder (b.build.meaning l.initial.board) (b.build.meaning l.board)
+    × Fitting (b.build.meaning l.board) l.core l.capacity l.over l.task

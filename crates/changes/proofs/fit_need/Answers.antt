@@ -6,7 +6,7 @@ use Rattle.changes.proofs.fit_need.Goals as goal
 
 pub returns : goal.returns
 returns g c =
-    let m : Meaning = g.B.Board.meaning c.args.board.now in
+    let m : Meaning = g.B.Board.build.meaning c.args.board.now in
     let t = c.args.task in
     let k = c.args.core in
     record {

@@ -9,17 +9,17 @@ pub returns-in_err-test_capacity : goal.returns-in_err-test_capacity
 returns-in_err-test_capacity g c =
     let b = g.B.Board in
     let a = c.args.board.now in
-    plan-stays b.meaning b.ready b.kept b.keeping (g.R.Rule.order c.args.rule) a (plan_capacity (b.meaning a) c.args.core c.args.capacity) c.from_residual.result _ c.requires
+    plan-stays b.build (g.R.Rule.order c.args.rule) a (plan_capacity (b.build.meaning a) c.args.core c.args.capacity) c.from_residual.result _ c.requires
     c.in_err-test_capacity.ensures c.from_residual.ensures.1
 
 pub returns-then-capacity : goal.returns-then-capacity
 returns-then-capacity g c =
     let b = g.B.Board in
     let a = c.args.board.now in
-    let m : Meaning = b.meaning a in
+    let m : Meaning = b.build.meaning a in
     let t = capacity-taken m c.args.core c.args.capacity c.in_ok-test_capacity.ensures in
     let changed = c.change_capacity.ensures in
-    plan-moves b.meaning b.ready b.kept b.keeping (g.R.Rule.order c.args.rule) a c.change_capacity.new.board (plan_capacity m c.args.core c.args.capacity) (with_capacity m c.args.core c.args.capacity)
+    plan-moves b.build (g.R.Rule.order c.args.rule) a c.change_capacity.new.board (plan_capacity m c.args.core c.args.capacity) (with_capacity m c.args.core c.args.capacity)
     t.comes (λ same. c.if-capacity.true (c.capacity.ensures ∙ sym (capacity-moves m c.args.core c.args.capacity same))) changed.order
     (record { good = changed.went.good; fairest = changed.fairest }) changed.went.keeps
 
@@ -27,7 +27,7 @@ pub returns-else-capacity : goal.returns-else-capacity
 returns-else-capacity g c =
     let b = g.B.Board in
     let a = c.args.board.now in
-    let m : Meaning = b.meaning a in
+    let m : Meaning = b.build.meaning a in
     let t = capacity-taken m c.args.core c.args.capacity c.in_ok-test_capacity.ensures in
-    plan-rests b.meaning b.ready b.kept b.keeping (g.R.Rule.order c.args.rule) a (plan_capacity m c.args.core c.args.capacity) (with_capacity m c.args.core c.args.capacity)
+    plan-rests b.build (g.R.Rule.order c.args.rule) a (plan_capacity m c.args.core c.args.capacity) (with_capacity m c.args.core c.args.capacity)
     t.comes (capacity-same m c.args.core c.args.capacity (sym c.if-capacity.false ∙ c.capacity.ensures)) c.requires

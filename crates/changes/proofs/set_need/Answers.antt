@@ -9,17 +9,17 @@ pub returns-in_err-test_need : goal.returns-in_err-test_need
 returns-in_err-test_need g c =
     let b = g.B.Board in
     let a = c.args.board.now in
-    plan-stays b.meaning b.ready b.kept b.keeping (g.R.Rule.order c.args.rule) a (plan_need (b.meaning a) c.args.task c.args.core c.args.need) c.from_residual.result _ c.requires
+    plan-stays b.build (g.R.Rule.order c.args.rule) a (plan_need (b.build.meaning a) c.args.task c.args.core c.args.need) c.from_residual.result _ c.requires
     c.in_err-test_need.ensures c.from_residual.ensures.1
 
 pub returns-then-need : goal.returns-then-need
 returns-then-need g c =
     let b = g.B.Board in
     let a = c.args.board.now in
-    let m : Meaning = b.meaning a in
+    let m : Meaning = b.build.meaning a in
     let t = need-taken m c.args.task c.args.core c.args.need c.in_ok-test_need.ensures in
     let changed = c.change_need.ensures in
-    plan-moves b.meaning b.ready b.kept b.keeping (g.R.Rule.order c.args.rule) a c.change_need.new.board (plan_need m c.args.task c.args.core c.args.need) (with_need m c.args.task c.args.core c.args.need)
+    plan-moves b.build (g.R.Rule.order c.args.rule) a c.change_need.new.board (plan_need m c.args.task c.args.core c.args.need) (with_need m c.args.task c.args.core c.args.need)
     t.comes (λ same. c.if-need.true (c.need.ensures ∙ sym (need-moves m c.args.task c.args.core c.args.need same))) changed.order
     (record { good = changed.went.good; fairest = changed.fairest }) changed.went.keeps
 
@@ -27,7 +27,7 @@ pub returns-else-need : goal.returns-else-need
 returns-else-need g c =
     let b = g.B.Board in
     let a = c.args.board.now in
-    let m : Meaning = b.meaning a in
+    let m : Meaning = b.build.meaning a in
     let t = need-taken m c.args.task c.args.core c.args.need c.in_ok-test_need.ensures in
-    plan-rests b.meaning b.ready b.kept b.keeping (g.R.Rule.order c.args.rule) a (plan_need m c.args.task c.args.core c.args.need) (with_need m c.args.task c.args.core c.args.need)
+    plan-rests b.build (g.R.Rule.order c.args.rule) a (plan_need m c.args.task c.args.core c.args.need) (with_need m c.args.task c.args.core c.args.need)
     t.comes (need-same m c.args.task c.args.core c.args.need (sym c.if-need.false ∙ c.need.ensures)) c.requires

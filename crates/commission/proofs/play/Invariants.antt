@@ -4,4 +4,4 @@ use Rattle.commission.proofs.play.Given as goal
 
 -- the plan stands after every line
 abbrev pub invariant-loop-line : goal.invariant-loop-line
-invariant-loop-line g l = Standing g.B.Board.meaning g.B.Board.ready (g.R.Rule.order (rule_of l.state)) (lent_of l.state).now
+invariant-loop-line g l = Standing g.B.Board.build (g.R.Rule.order (rule_of l.state)) (lent_of l.state).now

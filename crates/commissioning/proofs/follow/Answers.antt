@@ -11,10 +11,10 @@ returns-in-Some-Play g c =
     let state = c.args.state in
     let next = c.attempt-next.result.0 in
     let told = c.attempt-next.ensures in
-    let P : g.row.R.Denot → Type 0 = λ rule. Standing b.meaning b.ready (order rule) (lent_of next).now in
+    let P : g.row.R.Denot → Type 0 = λ rule. Standing b.build (order rule) (lent_of next).now in
     record {
       lent = told.lent;
       rule = told.rule;
-      standing = subst P (sym told.rule) (attempt-stands b.meaning b.ready b.kept (order (rule_of state)) (lent_of state).now (lent_of next).now (is_working state) (is_working next) _ _ told.attempted c.requires);
+      standing = subst P (sym told.rule) (attempt-stands b.build (order (rule_of state)) (lent_of state).now (lent_of next).now (is_working state) (is_working next) _ _ told.attempted c.requires);
       followed = search rules;
     }

@@ -9,7 +9,7 @@ use Rattle.order_writer.proofs.put_file.Goals as goal
 
 pub returns : goal.returns
 returns g c =
-    let m = g.B.Board.meaning c.args.board.now in
+    let m = g.B.Board.build.meaning c.args.board.now in
     let lines : List Line = order_lines c.args.letter m.cores m.capacity (rows c.args.tasks.now) m.need m.held in
     let count : c.put_order-done.result.records ≡ length lines = omega (arith, c.put_order-done.ensures.lines.counted) in
     let P : ℕ → Type 0 = λ n. Put c.args.out.now c.put_end.new.out 0 c.put_end.result.bytes (bytes_of (lines ++ line End (word n) ∷ [])) in

@@ -9,18 +9,18 @@ use Rattle.order_writer.proofs.put_order.Goals as goal
 
 pub put_tasks-named-requires : goal.put_tasks-named-requires
 put_tasks-named-requires g c =
-    let m = g.B.Board.meaning c.args.board.now in
+    let m = g.B.Board.build.meaning c.args.board.now in
     after-cores m.cores m.capacity c.requires.good.sound.few_cores (after-head c.args.letter m.tasks m.cores c.put_head-head.ensures) c.put_cores-cores.ensures
 
 pub put_pairs-needs-requires : goal.put_pairs-needs-requires
 put_pairs-needs-requires g c =
-    let m = g.B.Board.meaning c.args.board.now in
+    let m = g.B.Board.build.meaning c.args.board.now in
     let cores = after-cores m.cores m.capacity c.requires.good.sound.few_cores (after-head c.args.letter m.tasks m.cores c.put_head-head.ensures) c.put_cores-cores.ensures in
     record { good = c.requires.good; few = few-more 81 1105 (omega arith) (after-tasks c.args.tasks.now cores c.put_tasks-named.ensures) }
 
 pub put_pairs-requires : goal.put_pairs-requires
 put_pairs-requires g c =
-    let m = g.B.Board.meaning c.args.board.now in
+    let m = g.B.Board.build.meaning c.args.board.now in
     let s = c.requires.good.sound in
     let cores = after-cores m.cores m.capacity s.few_cores (after-head c.args.letter m.tasks m.cores c.put_head-head.ensures) c.put_cores-cores.ensures in
     let named = after-tasks c.args.tasks.now cores c.put_tasks-named.ensures in
@@ -28,7 +28,7 @@ put_pairs-requires g c =
 
 pub returns : goal.returns
 returns g c =
-    let m = g.B.Board.meaning c.args.board.now in
+    let m = g.B.Board.build.meaning c.args.board.now in
     let s = c.requires.good.sound in
     let rs = rows c.args.tasks.now in
     let cores = after-cores m.cores m.capacity s.few_cores (after-head c.args.letter m.tasks m.cores c.put_head-head.ensures) c.put_cores-cores.ensures in

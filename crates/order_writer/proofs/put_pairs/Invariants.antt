@@ -4,5 +4,5 @@ use Rattle.order_writer.proofs.put_pairs.Given as goal
 
 abbrev pub invariant-loop-task : goal.invariant-loop-task
 invariant-loop-task g l =
-    let m = g.B.Board.meaning l.board in
+    let m = g.B.Board.build.meaning l.board in
     Continued l.initial.out l.out l.initial.done l.done (each l.task (task_pairs l.kind m.cores (amounts_of l.kind m)))

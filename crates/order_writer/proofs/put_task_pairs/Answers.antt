@@ -10,13 +10,13 @@ loop-core-init g c = continued-none c.args.out.now c.args.from
 
 pub put_pair-done-requires : goal.put_pair-done-requires
 put_pair-done-requires g c =
-    let m = g.B.Board.meaning c.args.board.now in
+    let m = g.B.Board.build.meaning c.args.board.now in
     let few : m.cores ≤ 16 = c.requires.good.sound.few_cores in
     few_on 2500 16 3000 c.requires.few c.loop-core.invariant (omega (arith, pairs-few c.args.kind c.loop-core.core (amounts_of c.args.kind m) c.args.task, few, c.cores-count.ensures, c.loop-core-test.true)) (omega arith)
 
 pub loop-core-preserved : goal.loop-core-preserved
 loop-core-preserved g c =
-    let m = g.B.Board.meaning c.args.board.now in
+    let m = g.B.Board.build.meaning c.args.board.now in
     let kind = c.args.kind in
     let task = c.args.task in
     let i = c.loop-core.core in
@@ -26,7 +26,7 @@ loop-core-preserved g c =
 
 pub returns : goal.returns
 returns g c =
-    let m = g.B.Board.meaning c.args.board.now in
+    let m = g.B.Board.build.meaning c.args.board.now in
     let kind = c.args.kind in
     let task = c.args.task in
     let all : c.loop-core.core ≡ m.cores = omega (arith, c.cores-count.ensures, c.loop-core-test.false, c.loop-core.auto.core-end) in

@@ -7,7 +7,7 @@ use Rattle.order_writer.proofs.write.Goals as goal
 
 pub returns : goal.returns
 returns g c =
-    let m = g.B.Board.meaning c.args.board.now in
+    let m = g.B.Board.build.meaning c.args.board.now in
     let rs = rows c.args.tasks.now in
     let out = c.args.out.now in
     let file : List ℕ = file_of c.args.letter rs m in

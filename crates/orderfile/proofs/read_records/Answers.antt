@@ -11,8 +11,8 @@ use Rattle.orderfile.proofs.read_records.Goals as goal
 pub loop-records-init : goal.loop-records-init
 loop-records-init g c =
     let b = g.B.Board in (
-      record { frame = refl; good = c.requires; keeps = b.keeping.same c.args.board.now },
-      begin (b.meaning c.args.board.now) (rows c.args.tasks.now) c.args.file.now (walk_of c.in_ok-records.records) c.new-reader.result c.in_ok-records.ensures
+      record { frame = refl; good = c.requires; keeps = b.build.keeping.same c.args.board.now },
+      begin (b.build.meaning c.args.board.now) (rows c.args.tasks.now) c.args.file.now (walk_of c.in_ok-records.records) c.new-reader.result c.in_ok-records.ensures
           (c.new-reader.ensures ∙ (λ i. start (c.tasks.ensures i) (c.cores.ensures i))),
     )
 
@@ -20,22 +20,22 @@ pub loop-records-preserved : goal.loop-records-preserved
 loop-records-preserved g c =
     let b = g.B.Board in
     let at = c.loop-records in
-    let whole = run_from (b.meaning c.args.board.now) (rows c.args.tasks.now) c.args.file.now in
-    let s = reading at.reader at.seen (b.meaning at.board) (rows at.tasks) in
-    let t = reading c.take.new.reader (at.seen + 1) (b.meaning c.take.new.board) (rows c.take.new.tasks) in
+    let whole = run_from (b.build.meaning c.args.board.now) (rows c.args.tasks.now) c.args.file.now in
+    let s = reading at.reader at.seen (b.build.meaning at.board) (rows at.tasks) in
+    let t = reading c.take.new.reader (at.seen + 1) (b.build.meaning c.take.new.board) (rows c.take.new.tasks) in
     let cut = plain c.in_ok-found.found in
     let walked = c.in_ok-found.ensures in
     let taken = c.take.ensures in
-    let next = more whole s at.records.file.now at.records.at cut c.take.new.reader (b.meaning c.take.new.board) (rows c.take.new.tasks) at.invariant.1
+    let next = more whole s at.records.file.now at.records.at cut c.take.new.reader (b.build.meaning c.take.new.board) (rows c.take.new.tasks) at.invariant.1
     (sym c.loop-records-test.ensures) (sym walked.answer) (sym c.in_ok-take.ensures.told) in (
-      onward b.keeping c.args.board.now at.board c.take.new.board at.invariant.0 (record { frame = taken.frame; good = taken.good; keeps = taken.keeps }),
+      onward b.build.keeping c.args.board.now at.board c.take.new.board at.invariant.0 (record { frame = taken.frame; good = taken.good; keeps = taken.keeps }),
       subst (λ f. Sofar whole t f c.next.new.self.at) (sym walked.file) (subst (λ n. Sofar whole t at.records.file.now n) (sym walked.at) next),
     )
 
 pub returns-in_err-records : goal.returns-in_err-records
 returns-in_err-records g c =
     let b = g.B.Board in
-    let m = b.meaning c.args.board.now in
+    let m = b.build.meaning c.args.board.now in
     let rs = rows c.args.tasks.now in
     let left = err_from_is_err_and c.from_residual.result c.from_residual.ensures.1 in
     let fault = c.in_err-records.field-0.0 in
@@ -43,19 +43,19 @@ returns-in_err-records g c =
       told = refused-told c.from_residual.result m rs (run_from m rs c.args.file.now) fault (left.1 ∙ ap (λ x. Err x) left.2) (unopened m rs c.args.file.now fault c.in_err-records.ensures);
       frame = refl;
       good = c.requires;
-      keeps = b.keeping.same c.args.board.now;
+      keeps = b.build.keeping.same c.args.board.now;
     }
 
 pub returns-in_err-found : goal.returns-in_err-found
 returns-in_err-found g c =
     let b = g.B.Board in
     let at = c.loop-records in
-    let whole = run_from (b.meaning c.args.board.now) (rows c.args.tasks.now) c.args.file.now in
-    let s = reading at.reader at.seen (b.meaning at.board) (rows at.tasks) in
+    let whole = run_from (b.build.meaning c.args.board.now) (rows c.args.tasks.now) c.args.file.now in
+    let s = reading at.reader at.seen (b.build.meaning at.board) (rows at.tasks) in
     let left = err_from_is_err_and c.from_residual-in_err-found.result c.from_residual-in_err-found.ensures.1 in
     let fault = c.in_err-found.field-0.0 in
     record {
-      told = refused-told c.from_residual-in_err-found.result (b.meaning at.board) (rows at.tasks) whole fault (left.1 ∙ ap (λ x. Err x) left.2)
+      told = refused-told c.from_residual-in_err-found.result (b.build.meaning at.board) (rows at.tasks) whole fault (left.1 ∙ ap (λ x. Err x) left.2)
           (ends-cut whole s at.records.file.now at.records.at fault at.invariant.1 (sym c.loop-records-test.ensures) c.in_err-found.ensures.answer);
       frame = at.invariant.0.frame;
       good = at.invariant.0.good;
@@ -66,15 +66,15 @@ pub returns-in_err-take : goal.returns-in_err-take
 returns-in_err-take g c =
     let b = g.B.Board in
     let at = c.loop-records in
-    let whole = run_from (b.meaning c.args.board.now) (rows c.args.tasks.now) c.args.file.now in
-    let s = reading at.reader at.seen (b.meaning at.board) (rows at.tasks) in
+    let whole = run_from (b.build.meaning c.args.board.now) (rows c.args.tasks.now) c.args.file.now in
+    let s = reading at.reader at.seen (b.build.meaning at.board) (rows at.tasks) in
     let cut = plain c.in_ok-found.found in
     let left = err_from_is_err_and c.from_residual-in_err-take.result c.from_residual-in_err-take.ensures.1 in
     let fault = c.in_err-take.field-0.0 in
     let taken = c.take.ensures in
-    let on = onward b.keeping c.args.board.now at.board c.take.new.board at.invariant.0 (record { frame = taken.frame; good = taken.good; keeps = taken.keeps }) in
+    let on = onward b.build.keeping c.args.board.now at.board c.take.new.board at.invariant.0 (record { frame = taken.frame; good = taken.good; keeps = taken.keeps }) in
     record {
-      told = refused-told c.from_residual-in_err-take.result (b.meaning c.take.new.board) (rows c.take.new.tasks) whole fault (left.1 ∙ ap (λ x. Err x) left.2)
+      told = refused-told c.from_residual-in_err-take.result (b.build.meaning c.take.new.board) (rows c.take.new.tasks) whole fault (left.1 ∙ ap (λ x. Err x) left.2)
           (ends-refused whole s at.records.file.now at.records.at cut fault at.invariant.1 (sym c.loop-records-test.ensures) c.in_ok-found.ensures.answer c.in_err-take.ensures.told);
       frame = on.frame;
       good = on.good;
@@ -85,12 +85,12 @@ pub returns-in_err-finish : goal.returns-in_err-finish
 returns-in_err-finish g c =
     let b = g.B.Board in
     let at = c.loop-records in
-    let whole = run_from (b.meaning c.args.board.now) (rows c.args.tasks.now) c.args.file.now in
-    let s = reading at.reader at.seen (b.meaning at.board) (rows at.tasks) in
+    let whole = run_from (b.build.meaning c.args.board.now) (rows c.args.tasks.now) c.args.file.now in
+    let s = reading at.reader at.seen (b.build.meaning at.board) (rows at.tasks) in
     let left = err_from_is_err_and c.from_residual-in_err-finish.result c.from_residual-in_err-finish.ensures.1 in
     let fault = c.in_err-finish.field-0.0 in
     record {
-      told = refused-told c.from_residual-in_err-finish.result (b.meaning at.board) (rows at.tasks) whole fault (left.1 ∙ ap (λ x. Err x) left.2)
+      told = refused-told c.from_residual-in_err-finish.result (b.build.meaning at.board) (rows at.tasks) whole fault (left.1 ∙ ap (λ x. Err x) left.2)
           (ends-followed whole s at.records.file.now at.records.at fault at.invariant.1 (sym c.loop-records-test.ensures) c.in_err-finish.ensures);
       frame = at.invariant.0.frame;
       good = at.invariant.0.good;
@@ -101,8 +101,8 @@ pub returns : goal.returns
 returns g c =
     let b = g.B.Board in
     let at = c.loop-records in
-    let whole = run_from (b.meaning c.args.board.now) (rows c.args.tasks.now) c.args.file.now in
-    let s = reading at.reader at.seen (b.meaning at.board) (rows at.tasks) in
+    let whole = run_from (b.build.meaning c.args.board.now) (rows c.args.tasks.now) c.args.file.now in
+    let s = reading at.reader at.seen (b.build.meaning at.board) (rows at.tasks) in
     record {
       told = sym (ap order_of (ends-well whole s at.records.file.now at.records.at at.invariant.1 (sym c.loop-records-test.ensures) c.in_ok-finish.ensures));
       frame = at.invariant.0.frame;

@@ -8,8 +8,8 @@ use Rattle.orderfile.proofs.read_records.Given as goal
 abbrev pub invariant-loop-records : goal.invariant-loop-records
 invariant-loop-records g l =
     let b = g.B.Board in
-    Onward b.meaning b.ready b.kept l.initial.board l.board
-    × Sofar (run_from (b.meaning l.initial.board) (rows l.initial.tasks) l.file) (reading l.reader l.seen (b.meaning l.board) (rows l.tasks)) l.records.file.now l.records.at
+    Onward b.build l.initial.board l.board
+    × Sofar (run_from (b.build.meaning l.initial.board) (rows l.initial.tasks) l.file) (reading l.reader l.seen (b.build.meaning l.board) (rows l.tasks)) l.records.file.now l.records.at
 
 abbrev pub decreases-loop-records : goal.decreases-loop-records
 decreases-loop-records g l = length l.records.file.now - l.records.at

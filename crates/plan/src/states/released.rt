@@ -19,39 +19,39 @@ use tasks::table::TaskTable;
 impl<'a, B: Board, R: Rule> ReleasedPlan<'a, B, R> {
     // What a task holds over all cores.
     pub fn total(&self, task: usize) -> u32
-        requires { Standing B.meaning B.ready (R.order self.now.rule) self.now.board.now }
-        ensures { result ≡ total_of (B.meaning self.now.board.now) task }
+        requires { Standing B.build (R.order self.now.rule) self.now.board.now }
+        ensures { result ≡ total_of (B.build.meaning self.now.board.now) task }
     {
         self.board.total(task)
     }
 
     pub fn held(&self, task: usize, core: usize) -> u16
-        requires { Standing B.meaning B.ready (R.order self.now.rule) self.now.board.now }
-        ensures { result ≡ (B.meaning self.now.board.now).held task core }
+        requires { Standing B.build (R.order self.now.rule) self.now.board.now }
+        ensures { result ≡ (B.build.meaning self.now.board.now).held task core }
     {
         self.board.held(task, core)
     }
 
     // What all cores could still give.
     pub fn free_slots(&self) -> u32
-        requires { Standing B.meaning B.ready (R.order self.now.rule) self.now.board.now }
-        ensures { result ≡ free_slots (B.meaning self.now.board.now) }
+        requires { Standing B.build (R.order self.now.rule) self.now.board.now }
+        ensures { result ≡ free_slots (B.build.meaning self.now.board.now) }
     {
         self.board.free_slots()
     }
 
     // The totals of all tasks, by their numbers; 0 past the last task.
     pub fn totals(&self) -> [u32; MOST_TASKS]
-        requires { Standing B.meaning B.ready (R.order self.now.rule) self.now.board.now }
-        ensures { Totals (B.meaning self.now.board.now) result }
+        requires { Standing B.build (R.order self.now.rule) self.now.board.now }
+        ensures { Totals (B.build.meaning self.now.board.now) result }
     {
         totals_on(self.board)
     }
 
     // The judge's verdict on the plan. The rule is copied out, and the board lent.
     pub fn judge(&self, route: &mut [Step]) -> Result<Verdict, Fault>
-        requires { Standing B.meaning B.ready (R.order self.now.rule) self.now.board.now }
-        ensures { Judged (R.order self.now.rule) (B.meaning self.now.board.now) route.old route.new result }
+        requires { Standing B.build (R.order self.now.rule) self.now.board.now }
+        ensures { Judged (R.order self.now.rule) (B.build.meaning self.now.board.now) route.old route.new result }
     {
         let rule = self.rule;
         judge(self.board, rule, route)
@@ -75,8 +75,8 @@ impl<'a, B: Board, R: Rule> ReleasedPlan<'a, B, R> {
 
     // Writes the order file of the plan's board, and ends the plan, also where the writing is refused.
     pub fn write(self, tasks: &TaskTable, letter: u8, out: &mut [u8]) -> Result<usize, Fault>
-        requires { Standing B.meaning B.ready (R.order self.rule) self.board.now }
-        ensures written { Written letter (rows tasks.now) (B.meaning self.entry.board.now) out.old out.new result }
+        requires { Standing B.build (R.order self.rule) self.board.now }
+        ensures written { Written letter (rows tasks.now) (B.build.meaning self.entry.board.now) out.old out.new result }
         ensures board { self.exit.0.now ≡ self.entry.board.now }
     {
         let ReleasedPlan { board, rule: _ } = self;

@@ -19,10 +19,10 @@ use table_levelling::level_on_table;
 impl<'a, B: Board, R: Rule> WorkingPlan<'a, B, R> {
     // Levels the board at once, and keeps it.
     pub fn make(board: &'a mut B, rule: R) -> WorkingPlan<'a, B, R>
-        requires { Good B.meaning B.ready board.old }
+        requires { Good B.build board.old }
         ensures lent { result.board.ghost_name ≡ board.entry.ghost_name }
         ensures rule { result.rule ≡ rule }
-        ensures planned { Planned B.meaning B.ready B.kept (R.order rule) board.old result.board.now }
+        ensures planned { Planned B.build (R.order rule) board.old result.board.now }
     {
         level_on_table(board, rule);
         WorkingPlan { board, rule }
@@ -30,10 +30,10 @@ impl<'a, B: Board, R: Rule> WorkingPlan<'a, B, R> {
 
     // Sets a need: slots that no longer fit are taken away, the need changes, and the plan is levelled.
     pub fn set_need(&mut self, task: usize, core: usize, need: u16) -> Result<(), Fault>
-        requires { Standing B.meaning B.ready (R.order self.old.rule) self.old.board.now }
+        requires { Standing B.build (R.order self.old.rule) self.old.board.now }
         ensures lent { self.new.board.ghost_name ≡ self.old.board.ghost_name }
         ensures rule { self.new.rule ≡ self.old.rule }
-        ensures replanned { Replanned B.meaning B.ready B.kept (R.order self.old.rule) self.old.board.now self.new.board.now (plan_need (B.meaning self.old.board.now) task core need) result }
+        ensures replanned { Replanned B.build (R.order self.old.rule) self.old.board.now self.new.board.now (plan_need (B.build.meaning self.old.board.now) task core need) result }
     {
         let rule = self.rule;
         set_need(self.board, rule, task, core, need)
@@ -41,10 +41,10 @@ impl<'a, B: Board, R: Rule> WorkingPlan<'a, B, R> {
 
     // Sets a capacity, likewise.
     pub fn set_capacity(&mut self, core: usize, capacity: u16) -> Result<(), Fault>
-        requires { Standing B.meaning B.ready (R.order self.old.rule) self.old.board.now }
+        requires { Standing B.build (R.order self.old.rule) self.old.board.now }
         ensures lent { self.new.board.ghost_name ≡ self.old.board.ghost_name }
         ensures rule { self.new.rule ≡ self.old.rule }
-        ensures replanned { Replanned B.meaning B.ready B.kept (R.order self.old.rule) self.old.board.now self.new.board.now (plan_capacity (B.meaning self.old.board.now) core capacity) result }
+        ensures replanned { Replanned B.build (R.order self.old.rule) self.old.board.now self.new.board.now (plan_capacity (B.build.meaning self.old.board.now) core capacity) result }
     {
         let rule = self.rule;
         set_capacity(self.board, rule, core, capacity)
@@ -52,39 +52,39 @@ impl<'a, B: Board, R: Rule> WorkingPlan<'a, B, R> {
 
     // What a task holds over all cores.
     pub fn total(&self, task: usize) -> u32
-        requires { Standing B.meaning B.ready (R.order self.now.rule) self.now.board.now }
-        ensures { result ≡ total_of (B.meaning self.now.board.now) task }
+        requires { Standing B.build (R.order self.now.rule) self.now.board.now }
+        ensures { result ≡ total_of (B.build.meaning self.now.board.now) task }
     {
         self.board.total(task)
     }
 
     pub fn held(&self, task: usize, core: usize) -> u16
-        requires { Standing B.meaning B.ready (R.order self.now.rule) self.now.board.now }
-        ensures { result ≡ (B.meaning self.now.board.now).held task core }
+        requires { Standing B.build (R.order self.now.rule) self.now.board.now }
+        ensures { result ≡ (B.build.meaning self.now.board.now).held task core }
     {
         self.board.held(task, core)
     }
 
     // What all cores could still give.
     pub fn free_slots(&self) -> u32
-        requires { Standing B.meaning B.ready (R.order self.now.rule) self.now.board.now }
-        ensures { result ≡ free_slots (B.meaning self.now.board.now) }
+        requires { Standing B.build (R.order self.now.rule) self.now.board.now }
+        ensures { result ≡ free_slots (B.build.meaning self.now.board.now) }
     {
         self.board.free_slots()
     }
 
     // The totals of all tasks, by their numbers; 0 past the last task.
     pub fn totals(&self) -> [u32; MOST_TASKS]
-        requires { Standing B.meaning B.ready (R.order self.now.rule) self.now.board.now }
-        ensures { Totals (B.meaning self.now.board.now) result }
+        requires { Standing B.build (R.order self.now.rule) self.now.board.now }
+        ensures { Totals (B.build.meaning self.now.board.now) result }
     {
         totals_on(self.board)
     }
 
     // The judge's verdict on the plan. The rule is copied out, and the board lent.
     pub fn judge(&self, route: &mut [Step]) -> Result<Verdict, Fault>
-        requires { Standing B.meaning B.ready (R.order self.now.rule) self.now.board.now }
-        ensures { Judged (R.order self.now.rule) (B.meaning self.now.board.now) route.old route.new result }
+        requires { Standing B.build (R.order self.now.rule) self.now.board.now }
+        ensures { Judged (R.order self.now.rule) (B.build.meaning self.now.board.now) route.old route.new result }
     {
         let rule = self.rule;
         judge(self.board, rule, route)

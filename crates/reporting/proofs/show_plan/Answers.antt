@@ -6,5 +6,5 @@ pub returns : goal.returns
 returns g c =
     let b = g.B.Board in
     let planned = c.make-plan.ensures.planned in
-    plan-shown (g.R.Rule.order c.args.rule) (b.meaning c.args.board.now) (b.meaning c.make-plan.result.board.now) (rows c.args.tasks.now) c.totals-totals.result _ c.free_slots-free.result
+    plan-shown (g.R.Rule.order c.args.rule) (b.build.meaning c.args.board.now) (b.build.meaning c.make-plan.result.board.now) (rows c.args.tasks.now) c.totals-totals.result _ c.free_slots-free.result
     planned.standing.good.sound c.args.tasks.now.sound c.requires.good.sound.few_tasks c.requires.listed planned.order planned.standing.fairest c.totals-totals.ensures c.free_slots-free.ensures c.in_ok-text.ensures

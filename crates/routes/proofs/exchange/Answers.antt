@@ -5,8 +5,8 @@ use Rattle.routes.proofs.exchange.Goals as goal
 pub loop-i-preserved : goal.loop-i-preserved
 loop-i-preserved g c =
     let b = g.B.Board in (
-      record { good = c.shift.ensures.went.good; keeps = b.keeping.onward _ _ _ c.loop-i.invariant.0.keeps c.shift.ensures.went.keeps },
-      along-turn (b.meaning c.args.board.now) (b.meaning c.loop-i.board) (b.meaning c.shift.new.board) c.args.route.now c.args.loser c.loop-i.i c.loop-i.giver
+      record { good = c.shift.ensures.went.good; keeps = b.build.keeping.onward _ _ _ c.loop-i.invariant.0.keeps c.shift.ensures.went.keeps },
+      along-turn (b.build.meaning c.args.board.now) (b.build.meaning c.loop-i.board) (b.build.meaning c.shift.new.board) c.args.route.now c.args.loser c.loop-i.i c.loop-i.giver
           c.requires.route (omega arith) (omega arith) c.loop-i.invariant.1 c.loop-i.invariant.2 c.shift.ensures.shifted,
       sym (task-on c.args.route.now c.args.loser _ (omega arith)),
     )

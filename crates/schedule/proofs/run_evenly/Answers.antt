@@ -6,5 +6,5 @@ pub returns : goal.returns
 returns g c = record {
   went = c.run.ensures.went;
   told = c.run.ensures.told;
-  fair = λ accepted. ran-evenly _ _ _ _ (played g.B.Board.meaning even _ _ _ _ _ _ c.run.ensures.told accepted).ran;
+  fair = λ accepted. ran-evenly _ _ _ _ (played g.B.Board.build.meaning even _ _ _ _ _ _ c.run.ensures.told accepted).ran;
 }

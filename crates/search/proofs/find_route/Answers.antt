@@ -16,6 +16,6 @@ route_among-requires g c = record {
 
 pub returns : goal.returns
 returns g c =
-    let m : Meaning = g.B.Board.meaning c.args.board.now in
+    let m : Meaning = g.B.Board.build.meaning c.args.board.now in
     let P : ℕ → Type 0 = λ to. NothingToGain (g.R.Rule.order c.args.rule.now) m c.if-start-tasks.first to c.args.steps.now c.route_among.new.steps in
     searched-round _ _ _ _ _ _ _ c.route_among-2.result (subst P c.tasks-tasks.ensures c.in_default.ensures.searched) c.route_among-2.ensures.searched

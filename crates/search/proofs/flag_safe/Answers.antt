@@ -9,7 +9,7 @@ use Rattle.search.proofs.flag_safe.Goals.{then-as_urgent, else-as_urgent}
 
 pub loop-task-preserved : goal.loop-task-preserved
 loop-task-preserved g c =
-    let m : Meaning = g.B.Board.meaning c.args.board.now in
+    let m : Meaning = g.B.Board.build.meaning c.args.board.now in
     let compare : Comparison = g.R.Rule.order c.args.rule.now in
     let P : List Bool → Type 0 = SafeFlags compare m in
     elim c.if-as_urgent.branch [

@@ -8,20 +8,20 @@ use Rattle.search.proofs.open_core.Goals.{then-not-search-task+then-held-gt0, el
 
 pub enter-requires : goal.enter-requires
 enter-requires g c =
-    let m : Meaning = g.B.Board.meaning c.args.board.now in
+    let m : Meaning = g.B.Board.build.meaning c.args.board.now in
     let r = c.requires.start in
     let so = c.requires.good.sound in
     (omega (arith, enter-room m c.args.search.now c.args.place c.args.core r.trail r.here r.real so.few_cores r.shut), omega (arith, r.real, so.few_cores))
 
 pub loop-task-init : goal.loop-task-init
 loop-task-init g c =
-    let m : Meaning = g.B.Board.meaning c.args.board.now in
+    let m : Meaning = g.B.Board.build.meaning c.args.board.now in
     let P : Search → Type 0 = λ s. Holders m s s c.args.core c.args.search.now.opens 0 in
     subst P (sym c.enter.ensures) (holders-none m c.args.search.now c.args.place c.args.core c.requires.good.sound c.requires.start)
 
 pub reach-requires : goal.reach-requires
 reach-requires g c =
-    let m : Meaning = g.B.Board.meaning c.args.board.now in
+    let m : Meaning = g.B.Board.build.meaning c.args.board.now in
     let h = c.loop-task.invariant in
     let so = c.requires.good.sound in
     let kn : c.loop-task.task < m.tasks = omega arith in
@@ -30,7 +30,7 @@ reach-requires g c =
 
 pub loop-task-preserved : goal.loop-task-preserved
 loop-task-preserved g c =
-    let m : Meaning = g.B.Board.meaning c.args.board.now in
+    let m : Meaning = g.B.Board.build.meaning c.args.board.now in
     let s : Search = c.enter.new.self in
     let t : Search = c.loop-task.search in
     let j = c.args.core in
@@ -50,5 +50,5 @@ loop-task-preserved g c =
 
 pub returns : goal.returns
 returns g c =
-    holders-all (g.B.Board.meaning c.args.board.now) c.args.search.now c.enter.new.self c.loop-task.search c.args.place c.args.core c.args.search.now.opens c.loop-task.task
+    holders-all (g.B.Board.build.meaning c.args.board.now) c.args.search.now c.enter.new.self c.loop-task.search c.args.place c.args.core c.args.search.now.opens c.loop-task.task
     c.requires.good.sound c.requires.start c.enter.ensures c.loop-task.invariant (omega arith)

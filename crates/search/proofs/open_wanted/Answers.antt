@@ -11,7 +11,7 @@ loop-core-init g c = spread_none _ _ _ c.requires.complete c.requires.latest
 
 pub loop-core-preserved : goal.loop-core-preserved
 loop-core-preserved g c =
-    let m : Meaning = g.B.Board.meaning c.args.board.now in
+    let m : Meaning = g.B.Board.build.meaning c.args.board.now in
     let s : Search = c.args.search.now in
     let t : Search = c.loop-core.search in
     let x = c.args.place in

@@ -8,16 +8,16 @@ use Rattle.table_levelling.proofs.copy_needs.Goals as goal
 pub loop-task-init : goal.loop-task-init
 loop-task-init g c =
     let b = g.B.Board in
-    let from : Meaning = g.A.Board.meaning c.args.from.now in
-    let old : Meaning = b.meaning c.args.to.now in
-    (went-nowhere b.meaning b.ready b.kept b.keeping c.args.to.now c.requires.to, needs-start from old c.requires.clear)
+    let from : Meaning = g.A.Board.build.meaning c.args.from.now in
+    let old : Meaning = b.build.meaning c.args.to.now in
+    (went-nowhere b.build c.args.to.now c.requires.to, needs-start from old c.requires.clear)
 
 pub copy_task_needs-requires : goal.copy_task_needs-requires
 copy_task_needs-requires g c =
     let b = g.B.Board in
-    let from : Meaning = g.A.Board.meaning c.args.from.now in
-    let old : Meaning = b.meaning c.args.to.now in
-    let m : Meaning = b.meaning c.loop-task.to in
+    let from : Meaning = g.A.Board.build.meaning c.args.from.now in
+    let old : Meaning = b.build.meaning c.args.to.now in
+    let m : Meaning = b.build.meaning c.loop-task.to in
     let inv = c.loop-task.invariant.1 in
     let plan = tasks_to from.need (λ _ _. 0) c.loop-task.task in
     record {
@@ -31,20 +31,20 @@ copy_task_needs-requires g c =
 pub loop-task-preserved : goal.loop-task-preserved
 loop-task-preserved g c =
     let b = g.B.Board in
-    let from : Meaning = g.A.Board.meaning c.args.from.now in
-    let old : Meaning = b.meaning c.args.to.now in
-    let m : Meaning = b.meaning c.loop-task.to in (
-      went_on b.meaning b.ready b.kept b.keeping c.args.to.now c.loop-task.to c.copy_task_needs.new.to c.loop-task.invariant.0 c.copy_task_needs.ensures.went.good c.copy_task_needs.ensures.went.keeps,
-      ordered-on old m (b.meaning c.copy_task_needs.new.to) (tasks_to from.need (λ _ _. 0) c.loop-task.task) (tasks_to from.need (λ _ _. 0) (c.loop-task.task + 1))
+    let from : Meaning = g.A.Board.build.meaning c.args.from.now in
+    let old : Meaning = b.build.meaning c.args.to.now in
+    let m : Meaning = b.build.meaning c.loop-task.to in (
+      went_on b.build c.args.to.now c.loop-task.to c.copy_task_needs.new.to c.loop-task.invariant.0 c.copy_task_needs.ensures.went.good c.copy_task_needs.ensures.went.keeps,
+      ordered-on old m (b.build.meaning c.copy_task_needs.new.to) (tasks_to from.need (λ _ _. 0) c.loop-task.task) (tasks_to from.need (λ _ _. 0) (c.loop-task.task + 1))
           c.loop-task.invariant.1 c.copy_task_needs.ensures.copied,
     )
 
 pub returns : goal.returns
 returns g c =
     let b = g.B.Board in
-    let from : Meaning = g.A.Board.meaning c.args.from.now in
-    let old : Meaning = b.meaning c.args.to.now in
+    let from : Meaning = g.A.Board.build.meaning c.args.from.now in
+    let old : Meaning = b.build.meaning c.args.to.now in
     record {
       went = c.loop-task.invariant.0;
-      copied = needs-whole from old (b.meaning c.loop-task.to) c.loop-task.task c.requires.from.sound (omega (arith, c.tasks-task-end.ensures, c.loop-task-test.false, c.loop-task.auto.task-end)) c.loop-task.invariant.1;
+      copied = needs-whole from old (b.build.meaning c.loop-task.to) c.loop-task.task c.requires.from.sound (omega (arith, c.tasks-task-end.ensures, c.loop-task-test.false, c.loop-task.auto.task-end)) c.loop-task.invariant.1;
     }

@@ -6,7 +6,7 @@ use Rattle.table_levelling.proofs.copy_needs.Given as goal
 
 abbrev pub invariant-loop-task : goal.invariant-loop-task
 invariant-loop-task g l =
-    let from : Meaning = g.A.Board.meaning l.from in
+    let from : Meaning = g.A.Board.build.meaning l.from in
     let b = g.B.Board in
-    let old : Meaning = b.meaning l.initial.to in
-    Went b.meaning b.ready b.kept l.initial.to l.to × (b.meaning l.to ≡ ordered old old.capacity (tasks_to from.need (λ _ _. 0) l.task))
+    let old : Meaning = b.build.meaning l.initial.to in
+    Went b.build l.initial.to l.to × (b.build.meaning l.to ≡ ordered old old.capacity (tasks_to from.need (λ _ _. 0) l.task))

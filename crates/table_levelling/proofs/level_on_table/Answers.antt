@@ -9,7 +9,7 @@ use Rattle.table_levelling.proofs.level_on_table.Goals as goal
 
 pub copy_capacities-requires : goal.copy_capacities-requires
 copy_capacities-requires g c =
-    let from : Meaning = g.B.Board.meaning c.args.board.now in
+    let from : Meaning = g.B.Board.build.meaning c.args.board.now in
     let so : Sound from = c.requires.sound in
     let new : Meaning = table_of c.make-table.result in
     let made : NewTable from new = new-table from new c.tasks.result c.cores.result _ c.tasks.ensures c.cores.ensures (length-replicate {A = ℕ} 2064 0) c.make-table.ensures.means in
@@ -18,7 +18,7 @@ copy_capacities-requires g c =
 
 pub copy_needs-requires : goal.copy_needs-requires
 copy_needs-requires g c =
-    let from : Meaning = g.B.Board.meaning c.args.board.now in
+    let from : Meaning = g.B.Board.build.meaning c.args.board.now in
     let so : Sound from = c.requires.sound in
     let new : Meaning = table_of c.make-table.result in
     let made : NewTable from new = new-table from new c.tasks.result c.cores.result _ c.tasks.ensures c.cores.ensures (length-replicate {A = ℕ} 2064 0) c.make-table.ensures.means in
@@ -34,7 +34,7 @@ copy_needs-requires g c =
 
 pub bring_slots-requires : goal.bring_slots-requires
 bring_slots-requires g c =
-    let from : Meaning = g.B.Board.meaning c.args.board.now in
+    let from : Meaning = g.B.Board.build.meaning c.args.board.now in
     let so : Sound from = c.requires.sound in
     let new : Meaning = table_of c.make-table.result in
     let made : NewTable from new = new-table from new c.tasks.result c.cores.result _ c.tasks.ensures c.cores.ensures (length-replicate {A = ℕ} 2064 0) c.make-table.ensures.means in
@@ -47,7 +47,7 @@ bring_slots-requires g c =
 
 pub bring_slots-requires-2 : goal.bring_slots-requires-2
 bring_slots-requires-2 g c =
-    let from : Meaning = g.B.Board.meaning c.args.board.now in
+    let from : Meaning = g.B.Board.build.meaning c.args.board.now in
     let so : Sound from = c.requires.sound in
     let new : Meaning = table_of c.make-table.result in
     let made : NewTable from new = new-table from new c.tasks.result c.cores.result _ c.tasks.ensures c.cores.ensures (length-replicate {A = ℕ} 2064 0) c.make-table.ensures.means in
@@ -63,7 +63,7 @@ bring_slots-requires-2 g c =
 
 pub returns : goal.returns
 returns g c =
-    let from : Meaning = g.B.Board.meaning c.args.board.now in
+    let from : Meaning = g.B.Board.build.meaning c.args.board.now in
     let so : Sound from = c.requires.sound in
     let new : Meaning = table_of c.make-table.result in
     let made : NewTable from new = new-table from new c.tasks.result c.cores.result _ c.tasks.ensures c.cores.ensures (length-replicate {A = ℕ} 2064 0) c.make-table.ensures.means in
@@ -75,7 +75,7 @@ returns g c =
     let filled : Meaning = table_of c.bring_slots.new.to in
     let fair : Meaning = table_of c.level.new.board in
     let all : Mirrors from fair = planned-mirrors from filled fair fair.held c.level.ensures.order (planned-mirrors from asked filled from.held c.bring_slots.ensures.brought mirrors) in
-    let back : Meaning = g.B.Board.meaning c.bring_slots-2.new.to in
+    let back : Meaning = g.B.Board.build.meaning c.bring_slots-2.new.to in
     let brought = c.bring_slots-2.ensures.brought in
     record {
       went = c.bring_slots-2.ensures.went;

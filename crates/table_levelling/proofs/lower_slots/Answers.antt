@@ -8,16 +8,16 @@ use Rattle.table_levelling.proofs.lower_slots.Goals as goal
 pub loop-task-init : goal.loop-task-init
 loop-task-init g c =
     let b = g.B.Board in
-    let from : Meaning = g.A.Board.meaning c.args.from.now in
-    let old : Meaning = b.meaning c.args.to.now in
-    (went-nowhere b.meaning b.ready b.kept b.keeping c.args.to.now c.requires.to, tasks-none (lesser from.held old.held) old)
+    let from : Meaning = g.A.Board.build.meaning c.args.from.now in
+    let old : Meaning = b.build.meaning c.args.to.now in
+    (went-nowhere b.build c.args.to.now c.requires.to, tasks-none (lesser from.held old.held) old)
 
 pub lower_task-requires : goal.lower_task-requires
 lower_task-requires g c =
     let b = g.B.Board in
-    let from : Meaning = g.A.Board.meaning c.args.from.now in
-    let old : Meaning = b.meaning c.args.to.now in
-    let m : Meaning = b.meaning c.loop-task.to in
+    let from : Meaning = g.A.Board.build.meaning c.args.from.now in
+    let old : Meaning = b.build.meaning c.args.to.now in
+    let m : Meaning = b.build.meaning c.loop-task.to in
     let inv = c.loop-task.invariant.1 in
     let tasks : m.tasks ≡ old.tasks = ap (λ (z : Meaning). z.tasks) inv in
     record { from = c.requires.from; to = c.loop-task.invariant.0.good; task = omega (arith, tasks, c.tasks-task-end.ensures, c.loop-task-test.true) }
@@ -25,19 +25,19 @@ lower_task-requires g c =
 pub loop-task-preserved : goal.loop-task-preserved
 loop-task-preserved g c =
     let b = g.B.Board in
-    let from : Meaning = g.A.Board.meaning c.args.from.now in
-    let old : Meaning = b.meaning c.args.to.now in
-    let m : Meaning = b.meaning c.loop-task.to in (
-      went_on b.meaning b.ready b.kept b.keeping c.args.to.now c.loop-task.to c.lower_task.new.to c.loop-task.invariant.0 c.lower_task.ensures.went.good c.lower_task.ensures.went.keeps,
-      lower-tasks-more from old m (b.meaning c.lower_task.new.to) c.loop-task.task c.requires.to.sound c.loop-task.invariant.1 c.lower_task.ensures.lowered,
+    let from : Meaning = g.A.Board.build.meaning c.args.from.now in
+    let old : Meaning = b.build.meaning c.args.to.now in
+    let m : Meaning = b.build.meaning c.loop-task.to in (
+      went_on b.build c.args.to.now c.loop-task.to c.lower_task.new.to c.loop-task.invariant.0 c.lower_task.ensures.went.good c.lower_task.ensures.went.keeps,
+      lower-tasks-more from old m (b.build.meaning c.lower_task.new.to) c.loop-task.task c.requires.to.sound c.loop-task.invariant.1 c.lower_task.ensures.lowered,
     )
 
 pub returns : goal.returns
 returns g c =
     let b = g.B.Board in
-    let from : Meaning = g.A.Board.meaning c.args.from.now in
-    let old : Meaning = b.meaning c.args.to.now in
+    let from : Meaning = g.A.Board.build.meaning c.args.from.now in
+    let old : Meaning = b.build.meaning c.args.to.now in
     record {
       went = c.loop-task.invariant.0;
-      lowered = lower-whole from old (b.meaning c.loop-task.to) c.loop-task.task c.requires.to.sound (omega (arith, c.tasks-task-end.ensures, c.loop-task-test.false, c.loop-task.auto.task-end)) c.loop-task.invariant.1;
+      lowered = lower-whole from old (b.build.meaning c.loop-task.to) c.loop-task.task c.requires.to.sound (omega (arith, c.tasks-task-end.ensures, c.loop-task-test.false, c.loop-task.auto.task-end)) c.loop-task.invariant.1;
     }

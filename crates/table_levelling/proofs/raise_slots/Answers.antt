@@ -8,16 +8,16 @@ use Rattle.table_levelling.proofs.raise_slots.Goals as goal
 pub loop-task-init : goal.loop-task-init
 loop-task-init g c =
     let b = g.B.Board in
-    let from : Meaning = g.A.Board.meaning c.args.from.now in
-    let old : Meaning = b.meaning c.args.to.now in
-    (went-nowhere b.meaning b.ready b.kept b.keeping c.args.to.now c.requires.to, tasks-none from.held old)
+    let from : Meaning = g.A.Board.build.meaning c.args.from.now in
+    let old : Meaning = b.build.meaning c.args.to.now in
+    (went-nowhere b.build c.args.to.now c.requires.to, tasks-none from.held old)
 
 pub raise_task-requires : goal.raise_task-requires
 raise_task-requires g c =
     let b = g.B.Board in
-    let from : Meaning = g.A.Board.meaning c.args.from.now in
-    let old : Meaning = b.meaning c.args.to.now in
-    let m : Meaning = b.meaning c.loop-task.to in
+    let from : Meaning = g.A.Board.build.meaning c.args.from.now in
+    let old : Meaning = b.build.meaning c.args.to.now in
+    let m : Meaning = b.build.meaning c.loop-task.to in
     let inv = c.loop-task.invariant.1 in
     let tasks : m.tasks ≡ old.tasks = ap (λ (z : Meaning). z.tasks) inv in
     record {
@@ -31,19 +31,19 @@ raise_task-requires g c =
 pub loop-task-preserved : goal.loop-task-preserved
 loop-task-preserved g c =
     let b = g.B.Board in
-    let from : Meaning = g.A.Board.meaning c.args.from.now in
-    let old : Meaning = b.meaning c.args.to.now in
-    let m : Meaning = b.meaning c.loop-task.to in (
-      went_on b.meaning b.ready b.kept b.keeping c.args.to.now c.loop-task.to c.raise_task.new.to c.loop-task.invariant.0 c.raise_task.ensures.went.good c.raise_task.ensures.went.keeps,
-      raise-tasks-more from old m (b.meaning c.raise_task.new.to) c.loop-task.task c.requires.from.sound c.requires.to.sound c.requires.holds c.loop-task.invariant.1 c.raise_task.ensures.raised,
+    let from : Meaning = g.A.Board.build.meaning c.args.from.now in
+    let old : Meaning = b.build.meaning c.args.to.now in
+    let m : Meaning = b.build.meaning c.loop-task.to in (
+      went_on b.build c.args.to.now c.loop-task.to c.raise_task.new.to c.loop-task.invariant.0 c.raise_task.ensures.went.good c.raise_task.ensures.went.keeps,
+      raise-tasks-more from old m (b.build.meaning c.raise_task.new.to) c.loop-task.task c.requires.from.sound c.requires.to.sound c.requires.holds c.loop-task.invariant.1 c.raise_task.ensures.raised,
     )
 
 pub returns : goal.returns
 returns g c =
     let b = g.B.Board in
-    let from : Meaning = g.A.Board.meaning c.args.from.now in
-    let old : Meaning = b.meaning c.args.to.now in
+    let from : Meaning = g.A.Board.build.meaning c.args.from.now in
+    let old : Meaning = b.build.meaning c.args.to.now in
     record {
       went = c.loop-task.invariant.0;
-      raised = raise-whole from old (b.meaning c.loop-task.to) c.loop-task.task c.requires.from.sound c.requires.to.sound c.requires.holds (omega (arith, c.tasks-task-end.ensures, c.loop-task-test.false, c.loop-task.auto.task-end)) c.loop-task.invariant.1;
+      raised = raise-whole from old (b.build.meaning c.loop-task.to) c.loop-task.task c.requires.from.sound c.requires.to.sound c.requires.holds (omega (arith, c.tasks-task-end.ensures, c.loop-task-test.false, c.loop-task.auto.task-end)) c.loop-task.invariant.1;
     }

@@ -6,7 +6,7 @@ use Rattle.table_levelling.proofs.raise_task.Given as goal
 
 abbrev pub invariant-loop-core : goal.invariant-loop-core
 invariant-loop-core g l =
-    let from : Meaning = g.A.Board.meaning l.from in
+    let from : Meaning = g.A.Board.build.meaning l.from in
     let b = g.B.Board in
-    let old : Meaning = b.meaning l.initial.to in
-    Went b.meaning b.ready b.kept l.initial.to l.to × (b.meaning l.to ≡ planned old (row_to from.held old.held l.task l.core))
+    let old : Meaning = b.build.meaning l.initial.to in
+    Went b.build l.initial.to l.to × (b.build.meaning l.to ≡ planned old (row_to from.held old.held l.task l.core))

@@ -2,4 +2,4 @@ use Rattle.board.specs.Boards.{Good}
 use Rattle.worked_plans.proofs.show_on.Given as goal
 
 abbrev pub invariant-loop-slots : goal.invariant-loop-slots
-invariant-loop-slots g l = Good g.B.Board.meaning g.B.Board.ready l.board
+invariant-loop-slots g l = Good g.B.Board.build l.board

@@ -8,7 +8,7 @@ use Rattle.board.proofs.Board.pair_count.Goals.{then-need-gt0, else-need-gt0}
 
 pub loop-core-preserved : goal.loop-core-preserved
 loop-core-preserved g c =
-    let m : Meaning = g.Self.Board.meaning c.args.self.now in
+    let m : Meaning = g.Self.Board.build.meaning c.args.self.now in
     let task : ℕ = c.loop-task.task in
     let core : ℕ = c.loop-core.core in
     let more = sum_more core (λ k. needed (m.need task k)) in
@@ -20,7 +20,7 @@ loop-core-preserved g c =
 
 pub loop-task-preserved : goal.loop-task-preserved
 loop-task-preserved g c =
-    let m : Meaning = g.Self.Board.meaning c.args.self.now in
+    let m : Meaning = g.Self.Board.build.meaning c.args.self.now in
     let task : ℕ = c.loop-task.task in
     let more = sum_more task (λ t. sum_to m.cores (λ k. needed (m.need t k))) in
     let all : c.loop-core.core ≡ m.cores = omega arith in

@@ -7,18 +7,18 @@ use Rattle.board.proofs.Board.total.Goals as goal
 
 pub overflow_add-total : goal.overflow_add-total
 overflow_add-total g c =
-    let m : Meaning = g.Self.Board.meaning c.args.self.now in
+    let m : Meaning = g.Self.Board.build.meaning c.args.self.now in
     let f : ℕ → ℕ = m.held c.args.task in
     let small : (k : ℕ) → f k ≤ 1000 = λ k. held_small m c.requires.sound c.args.task k in
     omega (arith, c.requires.sound.few_tasks, c.requires.sound.few_cores, sum_bound c.loop-core.core f 1000 small, small c.loop-core.core)
 
 pub loop-core-preserved : goal.loop-core-preserved
 loop-core-preserved g c =
-    let m : Meaning = g.Self.Board.meaning c.args.self.now in
+    let m : Meaning = g.Self.Board.build.meaning c.args.self.now in
     omega (arith, sum_more c.loop-core.core (m.held c.args.task))
 
 pub returns : goal.returns
 returns g c =
-    let m : Meaning = g.Self.Board.meaning c.args.self.now in
+    let m : Meaning = g.Self.Board.build.meaning c.args.self.now in
     let all : c.loop-core.core ≡ m.cores = omega arith in
     c.loop-core.invariant ∙ ap (λ n. sum_to n (m.held c.args.task)) all

@@ -5,4 +5,4 @@ use Rattle.levelling.proofs.filling.give_out.Given as goal
 abbrev pub invariant-loop-turn : goal.invariant-loop-turn
 invariant-loop-turn g l =
     let b = g.B.Board in
-    Went b.meaning b.ready b.kept l.initial.board l.board × SameOrder (b.meaning l.initial.board) (b.meaning l.board)
+    Went b.build l.initial.board l.board × SameOrder (b.build.meaning l.initial.board) (b.build.meaning l.board)

@@ -5,6 +5,6 @@ pub returns : goal.returns
 returns g c =
     let b = g.B.Board in
     record {
-      went = went_on b.keeping _ _ _ c.set_slots.ensures.went c.set_slots-2.ensures.went;
-      order = order-on (b.meaning c.args.board.now) (b.meaning c.set_slots.new.board) (b.meaning c.set_slots-2.new.board) c.set_slots.ensures.order c.set_slots-2.ensures.order;
+      went = went_on b.build _ _ _ c.set_slots.ensures.went c.set_slots-2.ensures.went;
+      order = order-on (b.build.meaning c.args.board.now) (b.build.meaning c.set_slots.new.board) (b.build.meaning c.set_slots-2.new.board) c.set_slots.ensures.order c.set_slots-2.ensures.order;
     }

@@ -4,15 +4,14 @@ use Rattle.board.specs.Meaning.{Meaning, pair_count, needed, with_need}
 use Rattle.board.proofs.Bounds.{needed-one, needed-none}
 use Rattle.board.proofs.Passed.{need-passed, stays, need-changes}
 use Rattle.pair_board.specs.declared.PairBoard.{PairBoard}
-use Rattle.pair_board.specs.Pairs.{pairs_of, taken, Ready, Untouched}
-use Rattle.pair_board.specs.Kept.{untouched-keeps}
+use Rattle.pair_board.specs.Pairs.{pairs_of, taken, pair_build}
 use Rattle.pair_board.proofs.Lookups.{absent_none}
 use Rattle.pair_board.proofs.Steps.{need-there, need-changed, need-changed-serving, pair-removed, pair-removed-serving, pair-added, pair-added-serving, need-stands, recounted, room-left, in_list}
 use Rattle.pair_board.proofs.PairBoardBoard.set_need.Goals as goal
 
 pub returns-in_err-test_need : goal.returns-in_err-test_need
 returns-in_err-test_need c =
-    stays pairs_of Ready Untouched untouched-keeps _ _ _ _ c.requires c.in_err-test_need.ensures c.from_residual.ensures.1
+    stays pair_build _ _ _ _ c.requires c.in_err-test_need.ensures c.from_residual.ensures.1
 
 pub bounds-self-next : goal.bounds-self-next
 bounds-self-next c =
@@ -40,7 +39,7 @@ returns-then-need-gt0 c =
     let was : needed (m.need task core) ≡ 1 =
     needed-one _ (omega (arith, serves.serving.some here found.0, need-there b.tasks b.cores b.used b.capacities entries serves.serving fits task core here found c.args.need)) in
     let count = recounted m _ task core c.args.need p.on_tasks p.on_cores left in
-    need-changes pairs_of Ready Untouched b _ task core c.args.need c.requires c.in_ok-test_need.ensures left
+    need-changes pair_build b _ task core c.args.need c.requires c.in_ok-test_need.ensures left
     (record {
       sixteen = serves.sixteen;
       counted = omega (arith, serves.counted, count, was, needed-one c.args.need c.if-need-gt0.true);
@@ -69,7 +68,7 @@ returns-else-need-gt0 c =
     let was : needed (m.need task core) ≡ 1 =
     needed-one _ (omega (arith, serves.serving.some here found.0, need-there b.tasks b.cores b.used b.capacities entries serves.serving fits task core here found 0)) in
     let count = recounted m _ task core 0 p.on_tasks p.on_cores left in
-    need-changes pairs_of Ready Untouched b _ task core c.args.need c.requires c.in_ok-test_need.ensures
+    need-changes pair_build b _ task core c.args.need c.requires c.in_ok-test_need.ensures
     (left ∙ ap (with_need m task core) (sym zero))
     (record {
       sixteen = serves.sixteen;
@@ -97,7 +96,7 @@ returns-then-need-gt0-2 c =
     let fits : b.used ≤ length entries = omega (arith, below) in
     let left = pair-added b.tasks b.cores b.used b.capacities entries serves.serving fits task core absent below c.args.need in
     let count = recounted m _ task core c.args.need p.on_tasks p.on_cores left in
-    need-changes pairs_of Ready Untouched b _ task core c.args.need c.requires c.in_ok-test_need.ensures left
+    need-changes pair_build b _ task core c.args.need c.requires c.in_ok-test_need.ensures left
     (record {
       sixteen = serves.sixteen;
       counted = omega (arith, serves.counted, count, needed-none (m.need task core) (omega (arith, none)), needed-one c.args.need some);
@@ -110,6 +109,6 @@ pub returns-else-need-gt0-2 : goal.returns-else-need-gt0-2
 returns-else-need-gt0-2 c =
     let b : PairBoard = c.args.self.now in
     let none = absent_none (λ entry. entry.need) b.entries.now b.used c.args.task c.args.core c.in-None.ensures in
-    need-changes pairs_of Ready Untouched b b c.args.task c.args.core c.args.need c.requires c.in_ok-test_need.ensures
+    need-changes pair_build b b c.args.task c.args.core c.args.need c.requires c.in_ok-test_need.ensures
     (need-stands (pairs_of b) c.args.task c.args.core c.args.need (omega (arith, none, c.if-need-gt0-2.false)))
     c.requires.serves (untouched-keeps.same b)

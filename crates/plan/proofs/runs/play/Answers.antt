@@ -15,14 +15,14 @@ loop-place-init g c =
     let b = g.B.Board in
     let board = c.make.result.board.now in
     let made = c.make.ensures.planned in
-    let P : g.row.R.Denot → Type 0 = λ z. Standing b.meaning b.ready (g.R.Rule.order z) board in
+    let P : g.row.R.Denot → Type 0 = λ z. Standing b.build (g.R.Rule.order z) board in
     let standing = subst P (sym c.make.ensures.rule) made.standing in (
       standing,
-      b.keeping.same board,
+      b.build.keeping.same board,
       refl,
       refl,
       refl,
-      ran-none (g.R.Rule.order c.make.result.rule) (b.meaning board) c.args.calls.now c.args.notes.now standing.good.sound standing.fairest,
+      ran-none (g.R.Rule.order c.make.result.rule) (b.build.meaning board) c.args.calls.now c.args.notes.now standing.good.sound standing.fairest,
       record { long = refl; rest = λ k h. refl },
     )
 
@@ -35,15 +35,15 @@ loop-place-preserved g c =
     let step = c.step-next.ensures in
     let first = c.make.result.board.now in
     let board = (lent_of c.step-next.result.0).now in
-    let P : g.row.R.Denot → Type 0 = λ z. Standing b.meaning b.ready (g.R.Rule.order z) board in
-    let Q : g.row.R.Denot → Type 0 = λ z. FairestOn (g.R.Rule.order z) (b.meaning board) in
+    let P : g.row.R.Denot → Type 0 = λ z. Standing b.build (g.R.Rule.order z) board in
+    let Q : g.row.R.Denot → Type 0 = λ z. FairestOn (g.R.Rule.order z) (b.build.meaning board) in
     let room : place < length c.loop-place.notes = omega (arith, c.loop-place-test.true, c.loop-place.auto.notes, c.requires.room) in (
       subst P (sym step.rule) step.replanned.standing,
-      b.keeping.onward _ _ _ inv.1 step.replanned.keeps,
+      b.build.keeping.onward _ _ _ inv.1 step.replanned.keeps,
       step.rule ∙ inv.2,
       step.turned ∙ (ap (λ (z : Bool). turned z (call_at calls place)) inv.3 ∙ sym (fold_more turned true calls place (SetNeed 0 0 0) c.loop-place-test.true)),
       step.lent ∙ inv.4,
-      ran-more (g.R.Rule.order c.make.result.rule) (b.meaning first) calls place c.loop-place.notes (b.meaning (lent_of c.loop-place.state).now) (b.meaning board) _
+      ran-more (g.R.Rule.order c.make.result.rule) (b.build.meaning first) calls place c.loop-place.notes (b.build.meaning (lent_of c.loop-place.state).now) (b.build.meaning board) _
           c.loop-place-test.true room inv.5 step.replanned.told step.replanned.order step.replanned.standing.good.sound (subst Q inv.2 step.replanned.standing.fairest) c.totals-totals.ensures,
       notes-more place c.args.notes.now c.loop-place.notes _ inv.6,
     )
@@ -59,16 +59,16 @@ returns g c =
     let inv = c.loop-place.invariant in
     let made = c.make.ensures.planned in
     let last = (lent_of c.loop-place.state).now in
-    let m = b.meaning c.args.board.now in
+    let m = b.build.meaning c.args.board.now in
     let names : c.finish-back.result.ghost_name ≡ c.make.result.board.ghost_name = c.finish-back.ensures.lent ∙ inv.4 in
     let all : place ≡ length calls = omega (arith, c.loop-place-test.false, c.loop-place.auto.place-end) in
-    let P : g.row.R.Denot → Type 0 = λ z. RanTo (g.R.Rule.order z) m calls place c.loop-place.notes (b.meaning last) in
-    let ran = subst P c.make.ensures.rule (ran-since (g.R.Rule.order c.make.result.rule) m (b.meaning c.make.result.board.now) calls place c.loop-place.notes (b.meaning last) made.order inv.5) in
-    let Q : ℕ → Type 0 = λ z. RanTo (g.R.Rule.order c.args.rule) m calls z c.loop-place.notes (b.meaning last) in
+    let P : g.row.R.Denot → Type 0 = λ z. RanTo (g.R.Rule.order z) m calls place c.loop-place.notes (b.build.meaning last) in
+    let ran = subst P c.make.ensures.rule (ran-since (g.R.Rule.order c.make.result.rule) m (b.build.meaning c.make.result.board.now) calls place c.loop-place.notes (b.build.meaning last) made.order inv.5) in
+    let Q : ℕ → Type 0 = λ z. RanTo (g.R.Rule.order c.args.rule) m calls z c.loop-place.notes (b.build.meaning last) in
     let R : ℕ → Type 0 = λ z. NotesPast z c.args.notes.now c.loop-place.notes in
     record {
-      went = moved (Went b.meaning b.ready b.kept c.args.board.now) _ last (search rules)
-          (record { good = inv.0.good; keeps = b.keeping.onward _ _ _ made.keeps inv.1 });
-      ran = moved (λ x. RanTo (g.R.Rule.order c.args.rule) m calls (length calls) c.loop-place.notes (b.meaning x)) _ last (search rules) (subst Q all ran);
+      went = moved (Went b.build c.args.board.now) _ last (search rules)
+          (record { good = inv.0.good; keeps = b.build.keeping.onward _ _ _ made.keeps inv.1 });
+      ran = moved (λ x. RanTo (g.R.Rule.order c.args.rule) m calls (length calls) c.loop-place.notes (b.build.meaning x)) _ last (search rules) (subst Q all ran);
       rest = subst R all inv.6;
     }

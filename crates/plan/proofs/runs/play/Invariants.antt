@@ -11,10 +11,10 @@ invariant-loop-place g l =
     let b = g.B.Board in
     let first = (lent_of l.initial.state).now in
     let board = (lent_of l.state).now in
-    Standing b.meaning b.ready (g.R.Rule.order (rule_of l.state)) board
-    × b.kept first board
+    Standing b.build (g.R.Rule.order (rule_of l.state)) board
+    × b.build.kept first board
     × (rule_of l.state ≡ rule_of l.initial.state)
     × (is_working l.state ≡ working_at l.calls l.place)
     × ((lent_of l.state).ghost_name ≡ (lent_of l.initial.state).ghost_name)
-    × RanTo (g.R.Rule.order (rule_of l.initial.state)) (b.meaning first) l.calls l.place l.notes (b.meaning board)
+    × RanTo (g.R.Rule.order (rule_of l.initial.state)) (b.build.meaning first) l.calls l.place l.notes (b.build.meaning board)
     × NotesPast l.place l.initial.notes l.notes

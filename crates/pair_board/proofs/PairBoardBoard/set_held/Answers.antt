@@ -38,4 +38,4 @@ returns-in_default c =
     let no-slots = absent_none (λ entry. entry.held) b.entries.now b.used c.args.task c.args.core c.in_default.ensures in
     held-changes pair_build b b c.args.task c.args.core c.args.held c.requires c.in_ok-test_held.ensures
     (held-stands (pairs_of b) c.args.task c.args.core c.args.held (omega (arith, no-need, no-slots, p.within)))
-    c.requires.serves (untouched-keeps.same b)
+    c.requires.serves (pair_build.keeping.same b)

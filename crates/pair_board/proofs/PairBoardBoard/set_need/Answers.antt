@@ -111,4 +111,4 @@ returns-else-need-gt0-2 c =
     let none = absent_none (λ entry. entry.need) b.entries.now b.used c.args.task c.args.core c.in-None.ensures in
     need-changes pair_build b b c.args.task c.args.core c.args.need c.requires c.in_ok-test_need.ensures
     (need-stands (pairs_of b) c.args.task c.args.core c.args.need (omega (arith, none, c.if-need-gt0-2.false)))
-    c.requires.serves (untouched-keeps.same b)
+    c.requires.serves (pair_build.keeping.same b)

@@ -88,8 +88,8 @@ pub record Onward {S : Type 0} (build : Build S) (a b : S) : Type 0 where
   pub good : Good build b
   pub keeps : build.kept a b
 
-pub onward : {S : Type 0} {build : Build S} → (a b c : S) → Onward build a b → Onward build b c → Onward build a c
-onward k a b c h j = record { frame = j.frame ∙ h.frame; good = j.good; keeps = k.onward a b c h.keeps j.keeps }
+pub onward : {S : Type 0} (build : Build S) (a b c : S) → Onward build a b → Onward build b c → Onward build a c
+onward build a b c h j = record { frame = j.frame ∙ h.frame; good = j.good; keeps = build.keeping.onward a b c h.keeps j.keeps }
 
 -- where reading leaves, the whole comes to the same
 

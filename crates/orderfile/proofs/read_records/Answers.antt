@@ -28,7 +28,7 @@ loop-records-preserved g c =
     let taken = c.take.ensures in
     let next = more whole s at.records.file.now at.records.at cut c.take.new.reader (b.build.meaning c.take.new.board) (rows c.take.new.tasks) at.invariant.1
     (sym c.loop-records-test.ensures) (sym walked.answer) (sym c.in_ok-take.ensures.told) in (
-      onward b.build.keeping c.args.board.now at.board c.take.new.board at.invariant.0 (record { frame = taken.frame; good = taken.good; keeps = taken.keeps }),
+      onward b.build c.args.board.now at.board c.take.new.board at.invariant.0 (record { frame = taken.frame; good = taken.good; keeps = taken.keeps }),
       subst (λ f. Sofar whole t f c.next.new.self.at) (sym walked.file) (subst (λ n. Sofar whole t at.records.file.now n) (sym walked.at) next),
     )
 
@@ -72,7 +72,7 @@ returns-in_err-take g c =
     let left = err_from_is_err_and c.from_residual-in_err-take.result c.from_residual-in_err-take.ensures.1 in
     let fault = c.in_err-take.field-0.0 in
     let taken = c.take.ensures in
-    let on = onward b.build.keeping c.args.board.now at.board c.take.new.board at.invariant.0 (record { frame = taken.frame; good = taken.good; keeps = taken.keeps }) in
+    let on = onward b.build c.args.board.now at.board c.take.new.board at.invariant.0 (record { frame = taken.frame; good = taken.good; keeps = taken.keeps }) in
     record {
       told = refused-told c.from_residual-in_err-take.result (b.build.meaning c.take.new.board) (rows c.take.new.tasks) whole fault (left.1 ∙ ap (λ x. Err x) left.2)
           (ends-refused whole s at.records.file.now at.records.at cut fault at.invariant.1 (sym c.loop-records-test.ensures) c.in_ok-found.ensures.answer c.in_err-take.ensures.told);

@@ -1,5 +1,4 @@
 -- Calls one after another on one board.
-use Rattle.board.specs.Meaning.{Meaning}
 use Rattle.board.specs.Boards.{Build, Good, Went}
 
 -- nothing was done

@@ -1,7 +1,9 @@
 -- Each refusal's number and layer.
-use Rattle.std.specs.Prelude.{ℕ}
+use Rattle.std.specs.Prelude.{ℕ, List, ◌++◌, codes, decimal}
 use Rattle.board.specs.declared.fault.Refusal.{Refusal}
 use Rattle.board.specs.declared.fault.Refusal.TheVariants.{FileTooLong, RecordCutShort, UnknownKind, KindOutOfTurn, WrongLength, NumberOutOfTurn, ValueOutOfBounds, BadName, SizesDiffer, WrongCount, BytesAfterEnd, NoSuchTaskOrCore, AmountTooLarge, SlotsOverNeed, CoreOverCapacity, NoPairLeft, CannotBeMade, RouteListTooShort, OutputTooShort}
+use Rattle.board.specs.declared.fault.Layer.{Layer}
+use Rattle.board.specs.declared.fault.Layer.TheVariants.{File, Board, Judge}
 use Rattle.board.specs.declared.fault.Fault.{Fault}
 
 abbrev pub number_of : Refusal → ℕ
@@ -47,5 +49,15 @@ layer_of CannotBeMade = 2
 layer_of RouteListTooShort = 3
 layer_of OutputTooShort = 1
 
+abbrev pub layer_number : Layer → ℕ
+layer_number File = 1
+layer_number Board = 2
+layer_number Judge = 3
+
 abbrev pub fault_at : Refusal → ℕ → Fault
 fault_at why at = record { refusal = why; place = at }
+
+-- how a fault reads
+abbrev pub fault_text : Fault → List ℕ
+fault_text fault =
+    codes "refused " ++ (decimal (number_of fault.refusal) ++ (codes " layer " ++ (decimal (layer_of fault.refusal) ++ (codes " place " ++ decimal fault.place))))

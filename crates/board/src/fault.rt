@@ -1,10 +1,12 @@
 // Why a call refuses, and where in a file.
-ghost use Rattle.std.specs.Prelude.{◌≡◌};
-ghost use Rattle.board.specs.Refusals.{number_of, layer_of, fault_at};
+ghost use Rattle.std.specs.Prelude.{◌≡◌, Some};
+ghost use Rattle.board.specs.Refusals.{number_of, layer_of, layer_number, fault_at, fault_text};
+
+use std::fmt;
 
 #[derive(Clone, Copy, PartialEq, Eq, Debug, Drop)]
 pub enum Refusal {
-    FileTooLong,
+    FileTooLong = 1,
     RecordCutShort,
     UnknownKind,
     KindOutOfTurn,
@@ -25,17 +27,24 @@ pub enum Refusal {
     OutputTooShort,
 }
 
+// Who refuses.
+#[derive(Clone, Copy, PartialEq, Eq, Debug, Drop)]
+pub enum Layer {
+    File = 1,
+    Board,
+    Judge,
+}
+
 impl Refusal {
     // The number in the table of refusals.
     pub fn number(self) -> u8
         ensures { result ≡ number_of self }
     {
-        self as u8 + 1
+        self as u8
     }
 
-    // 1 the file, 2 the board, 3 the judge.
-    pub fn layer(self) -> u8
-        ensures { result ≡ layer_of self }
+    pub fn layer(self) -> Layer
+        ensures { layer_number result ≡ layer_of self }
     {
         match self {
             Refusal::NoSuchTaskOrCore
@@ -43,9 +52,9 @@ impl Refusal {
             | Refusal::SlotsOverNeed
             | Refusal::CoreOverCapacity
             | Refusal::NoPairLeft
-            | Refusal::CannotBeMade => 2,
-            Refusal::RouteListTooShort => 3,
-            _ => 1,
+            | Refusal::CannotBeMade => Layer::Board,
+            Refusal::RouteListTooShort => Layer::Judge,
+            _ => Layer::File,
         }
     }
 
@@ -76,6 +85,17 @@ impl Fault {
     pub fn layer(self) -> u8
         ensures { result ≡ layer_of self.refusal }
     {
-        self.refusal.layer()
+        self.refusal.layer() as u8
+    }
+}
+
+impl fmt::Display for Fault {
+    ghost output = { λ fault. Some (fault_text fault) };
+
+    fn fmt<W: fmt::Write>(&self, f: &mut fmt::Formatter<W>) -> fmt::Result {
+        let number = self.number();
+        let layer = self.layer();
+        let place = self.place;
+        write!(f, "refused {number} layer {layer} place {place}")
     }
 }

@@ -20,7 +20,7 @@ pub const MOST_SLOTS: u16 = 1000;
 pub fn sizes_allowed(n: usize, m: usize) -> bool
     ensures { result ≡ sizes_allowed n m }
 {
-    1 <= n && n <= MOST_TASKS && 1 <= m && m <= MOST_CORES
+    (1..=MOST_TASKS).contains(&n) && (1..=MOST_CORES).contains(&m)
 }
 
 // A board holds for each task and core a need and the slots held, and for each core a capacity.

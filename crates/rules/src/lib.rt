@@ -9,6 +9,7 @@ ghost use Rattle.rules.specs.Comparisons.{weighted, by_need, weight, divisor};
 ghost use Rattle.fairness.proofs.Standings.{even-lawful};
 ghost use Rattle.rules.specs.WorkedPlans.{WorkedPlansAgree};
 ghost use Rattle.rules.specs.Lawful.{weighted-lawful, by-need-lawful};
+ghost use Rattle.rules.specs.OrderRules.{order_of, order-lawful};
 
 use fairness::Share;
 use std::cmp::Ordering;
@@ -104,6 +105,28 @@ impl Rule for ByNeed {
 
     fn compare(&self, a: Share, b: Share) -> Ordering {
         compare_fractions(a, divide_by(a.whole_need), b, divide_by(b.whole_need))
+    }
+}
+
+// The rule of one order, where which it is shows only when the program runs.
+#[derive(Clone, Copy)]
+pub enum OrderRule {
+    Even(Even),
+    Weighted(Weighted),
+    ByNeed(ByNeed),
+}
+
+impl Rule for OrderRule {
+    ghost order = { order_of };
+
+    ghost lawful = { order-lawful };
+
+    fn compare(&self, a: Share, b: Share) -> Ordering {
+        match self {
+            OrderRule::Even(rule) => rule.compare(a, b),
+            OrderRule::Weighted(rule) => rule.compare(a, b),
+            OrderRule::ByNeed(rule) => rule.compare(a, b),
+        }
     }
 }
 

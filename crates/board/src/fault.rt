@@ -2,6 +2,7 @@
 ghost use Rattle.std.specs.Prelude.{◌≡◌, Some};
 ghost use Rattle.board.specs.Refusals.{number_of, layer_of, layer_number, fault_at, fault_text};
 
+use std::error::Error;
 use std::fmt;
 
 #[derive(Clone, Copy, PartialEq, Eq, Debug, Drop)]
@@ -99,3 +100,5 @@ impl fmt::Display for Fault {
         write!(f, "refused {number} layer {layer} place {place}")
     }
 }
+
+impl Error for Fault {}

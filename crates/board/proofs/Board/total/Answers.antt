@@ -1,6 +1,4 @@
-use Rattle.std.proofs.Common.{◌≡◌, ℕ, ◌≤◌, ap, ◌∙◌, arith}
-use Rattle.fairness.specs.Sums.{sum_to}
-use Rattle.fairness.proofs.Sums.{sum_more}
+use Rattle.std.proofs.Common.{ℕ, ◌≤◌, arith}
 use Rattle.board.specs.Meaning.{Meaning}
 use Rattle.board.proofs.Bounds.{sum_bound, held_small}
 use Rattle.board.proofs.Board.total.Goals as goal
@@ -11,14 +9,3 @@ overflow_add-total g c =
     let f : ℕ → ℕ = m.held c.args.task in
     let small : (k : ℕ) → f k ≤ 1000 = λ k. held_small m c.requires.sound c.args.task k in
     omega (arith, c.requires.sound.few_tasks, c.requires.sound.few_cores, sum_bound c.loop-core.core f 1000 small, small c.loop-core.core)
-
-pub loop-core-preserved : goal.loop-core-preserved
-loop-core-preserved g c =
-    let m : Meaning = g.Self.Board.build.meaning c.args.self.now in
-    omega (arith, sum_more c.loop-core.core (m.held c.args.task))
-
-pub returns : goal.returns
-returns g c =
-    let m : Meaning = g.Self.Board.build.meaning c.args.self.now in
-    let all : c.loop-core.core ≡ m.cores = omega arith in
-    c.loop-core.invariant ∙ ap (λ n. sum_to n (m.held c.args.task)) all

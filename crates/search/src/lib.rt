@@ -15,7 +15,6 @@ use board::{Board, MOST_CORES, MOST_TASKS};
 use fairness::Share;
 use routes::Step;
 use rules::Rule;
-use std::cmp::Ordering;
 
 // A route that makes the plan fairer: who gains a slot, who loses it, and in how many steps.
 #[derive(Clone, Copy)]
@@ -137,21 +136,13 @@ pub fn should_gain<R: Rule>(rule: &R, gainer: Share, loser: Share) -> bool
         total: loser.total - 1,
         ..loser
     };
-    match rule.compare(gainer, without) {
-        Ordering::Less => true,
-        Ordering::Greater => false,
-        Ordering::Equal => match rule.compare(
-            loser,
-            Share {
-                total: gainer.total + 1,
-                ..gainer
-            },
-        ) {
-            Ordering::Less => true,
-            Ordering::Equal => false,
-            Ordering::Greater => false,
-        },
-    }
+    let more = Share {
+        total: gainer.total + 1,
+        ..gainer
+    };
+    rule.compare(gainer, without)
+        .then_with(|| rule.compare(loser, more))
+        .is_lt()
 }
 
 // Whether the first task is at least as urgent as the second: then it should gain whatever the second should.
@@ -159,24 +150,17 @@ fn as_urgent<R: Rule>(rule: &R, first: Share, second: Share) -> bool
     requires { (first.total ≤ 16000) × (second.total ≤ 16000) }
     ensures { result ≡ as_urgent (R.order rule.now) first second }
 {
-    match rule.compare(first, second) {
-        Ordering::Less => true,
-        Ordering::Greater => false,
-        Ordering::Equal => match rule.compare(
-            Share {
-                total: second.total + 1,
-                ..second
-            },
-            Share {
-                total: first.total + 1,
-                ..first
-            },
-        ) {
-            Ordering::Less => true,
-            Ordering::Equal => true,
-            Ordering::Greater => false,
-        },
-    }
+    let first_more = Share {
+        total: first.total + 1,
+        ..first
+    };
+    let second_more = Share {
+        total: second.total + 1,
+        ..second
+    };
+    rule.compare(first, second)
+        .then_with(|| rule.compare(second_more, first_more))
+        .is_le()
 }
 
 // The place in the search of the first task found that should lose a slot to the gainer.

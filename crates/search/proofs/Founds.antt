@@ -1,5 +1,5 @@
 -- Searches for several tasks put together.
-use Rattle.std.proofs.Common.{◌≡◌, ℕ, ◌+◌, ◌<◌, ◌≤◌, true, ltb, List, Some, None, Option, sym, refl, ap, ◌∙◌, subst, inl, inr, arith}
+use Rattle.std.proofs.Common.{◌≡◌, ℕ, ◌+◌, ◌<◌, ◌≤◌, true, ltb, List, length, Some, None, Option, sym, refl, ap, ◌∙◌, subst, inl, inr, arith}
 use Rattle.std.proofs.lemmas.Bool.{cases_lt, and_parts}
 use Rattle.fairness.specs.Laws.{Comparison, Lawful}
 use Rattle.board.specs.Meaning.{Meaning, Sound, total_of}
@@ -9,7 +9,8 @@ use Rattle.fairness.specs.Routes.{should_gain}
 use Rattle.search.specs.declared.Search.{Search}
 use Rattle.search.specs.Trails.{task_at}
 use Rattle.search.specs.Searches.{Gain}
-use Rattle.search.specs.Chains.{Chain, Leads, RestSame}
+use Rattle.search.specs.Chains.{Chain, RestSame}
+use Rattle.search.proofs.Leading.{chain-leads}
 use Rattle.search.proofs.Shares.{not_own}
 use Rattle.search.proofs.Fewest.{fewest}
 use Rattle.search.specs.declared.Found.{Found}
@@ -51,15 +52,15 @@ searched-round compare m first to a b c None h s = record {
 searched-round compare m first to a b c (Some f) h s = route-on compare m first to a b c f h s
 
 -- the route to the task that a search came to
-pub shown-route : (compare : Comparison) → Lawful compare → (m : Meaning) → Sound m → (p : ℕ) (s : Search) (x : ℕ) (a b : List Step) (k : ℕ) → Gain compare m p s x → Leads s x b k → Chain s x b k → k ≤ 16 → RestSame a b k
+pub shown-route : (compare : Comparison) → Lawful compare → (m : Meaning) → Sound m → (p : ℕ) (s : Search) (x : ℕ) (a b : List Step) (k : ℕ) → Gain compare m p s x → Chain s x b k → k ≤ length b → k ≤ 16 → RestSame a b k
     → FairerRoute compare m a b (record { gainer = p; loser = task_at s x; steps = k })
-shown-route compare lawful m so p s x a b k h leads chain few rest =
+shown-route compare lawful m so p s x a b k h chain fits few rest =
     let Q : ℕ → Type 0 = λ z. gains_from compare (share_on m p) (share_on m z) ≡ true in
     let other : 0 < x = elim (cases_lt 0 x) [
       | inl u ↦ u
       | inr u ↦ let e : x ≡ 0 = omega arith in absurd (not_own compare lawful m so p (subst Q (ap (task_at s) e ∙ h.first) h.gains))
     ] in
-    let r = leads m h.trail other in
+    let r = chain-leads s x b k chain fits m h.trail other in
     record {
       route = r.route;
       begins = r.first ∙ h.first;

@@ -18,7 +18,7 @@ use routes::Step;
 use rules::Rule;
 
 // A route that makes the plan fairer: who gains a slot, who loses it, and in how many steps.
-#[derive(Clone, Copy)]
+#[derive(Clone, Copy, PartialEq, Eq, Debug)]
 pub struct Found {
     pub gainer: usize,
     pub loser: usize,
@@ -315,7 +315,7 @@ pub fn find_route<B: Board, R: Rule>(
     ensures { Searched (R.order rule.now) (B.build.meaning board.now) 0 (B.build.meaning board.now).tasks steps.old steps.new result }
 {
     let tasks = board.tasks();
-    let first = if start < tasks { start } else { 0 };
+    let first = start.min(tasks);
     let mut safe = [false; MOST_TASKS];
     if let Some(found) = route_among(board, rule, first, tasks, steps, &mut safe) {
         return Some(found);

@@ -1,18 +1,11 @@
 -- Shares of the tasks of a board, and the test made on them.
-use Rattle.std.proofs.Common.{◌≡◌, ℕ, ◌<◌, ◌≤◌, true, false, ltb, refl, ap, ◌∙◌, arith}
-use Rattle.fairness.specs.declared.Share.{Share}
+use Rattle.std.proofs.Common.{◌≡◌, ℕ, ◌<◌, ◌≤◌, true, false, ltb, refl, arith}
 use Rattle.std.proofs.lemmas.Bool.{both_ways, and_parts, ltb-true}
 use Rattle.fairness.specs.Laws.{Comparison, Lawful}
 use Rattle.fairness.specs.Routes.{should_gain, fallen}
-use Rattle.board.specs.Meaning.{Meaning, Sound, total_of, whole_need_of}
+use Rattle.board.specs.Meaning.{Meaning, Sound, total_of}
 use Rattle.board.proofs.Bounds.{sum_bound, held_small}
 use Rattle.search.specs.Gains.{share_on, gains_from}
-
-pub share-is : (m : Meaning) (task whole total : ℕ) → whole ≡ whole_need_of m task → total ≡ total_of m task
-    → ◌≡◌ {A = Share} (record { task = task; whole_need = whole; total = total }) (share_on m task)
-share-is m task whole total e f =
-    let share : ℕ → ℕ → Share = λ w s. record { task = task; whole_need = w; total = s } in
-    ap (λ w. share w total) e ∙ ap (share (whole_need_of m task)) f
 
 -- so a rule tells each of a task's totals from the next
 pub share-small : (m : Meaning) → Sound m → (task : ℕ) → total_of m task ≤ 16000

@@ -1,10 +1,7 @@
 use Rattle.std.proofs.Common.{arith}
 use Rattle.board.specs.Meaning.{Meaning}
-use Rattle.search.proofs.Founds.{nothing-one, shown-route}
+use Rattle.search.proofs.Founds.{shown-route}
 use Rattle.search.proofs.route_from.Goals as goal
-
-pub returns-in_default-clause-searched : goal.returns-in_default-clause-searched
-returns-in_default-clause-searched g c = nothing-one _ _ c.args.gainer c.args.steps.now c.in_default.ensures.sought
 
 pub returns-clause-searched : goal.returns-clause-searched
 returns-clause-searched g c =

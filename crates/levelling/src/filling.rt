@@ -4,13 +4,13 @@ ghost use Rattle.std.specs.Prelude.{◌<◌, IfSome};
 ghost use Rattle.board.specs.Meaning.{SameOrder, most_tasks, most_cores};
 ghost use Rattle.board.specs.Boards.{Good, Went};
 
-use board::{Board, MOST_CORES, MOST_SLOTS, MOST_TASKS};
+use board::{Board, MOST_CORES, MOST_TASKS};
 use fairness::Share;
 use rules::Rule;
-use search::share_of;
+use search::{MOST_TOTAL, share_of};
 
 // Each turn gives a slot or finishes a task, so there are never more.
-const MOST_TURNS: usize = MOST_TASKS + MOST_CORES * MOST_SLOTS as usize;
+const MOST_TURNS: usize = MOST_TASKS + MOST_TOTAL as usize;
 
 // What the rule sees of a task, and whether it can take no more.
 #[derive(Clone, Copy)]

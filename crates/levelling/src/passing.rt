@@ -8,7 +8,7 @@ use board::{Board, MOST_SLOTS};
 use fairness::Share;
 use routes::Step;
 use rules::Rule;
-use search::{Found, share_of, should_gain};
+use search::{Found, MOST_TOTAL, share_of, should_gain};
 
 fn set_slots<B: Board>(board: &mut B, task: usize, core: usize, held: u16)
     requires { Good B.build board.old }
@@ -50,7 +50,7 @@ fn one_more<R: Rule>(rule: &R, gainer: Share, loser: Share, gone: u32) -> bool {
     should_gain(
         rule,
         Share {
-            total: gainer.total.saturating_add(gone).min(16000),
+            total: gainer.total.saturating_add(gone).min(MOST_TOTAL),
             ..gainer
         },
         Share {
@@ -64,6 +64,7 @@ fn one_more<R: Rule>(rule: &R, gainer: Share, loser: Share, gone: u32) -> bool {
 fn fair_amount<R: Rule>(rule: &R, gainer: Share, loser: Share, room: u16) -> u16
     requires { room ≤ 1000 }
 {
+    // Halved by hand, since no list of the amounts is kept that could be searched.
     let mut fair = 0;
     let mut unfair = room + 1;
     while fair + 1 < unfair {

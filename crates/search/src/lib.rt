@@ -4,7 +4,7 @@
 ghost use Rattle.std.specs.Prelude.{◌≡◌, ◌+◌, ◌<◌, ◌≤◌, length};
 ghost use Rattle.board.specs.Meaning.{most_tasks, most_cores};
 ghost use Rattle.board.specs.Boards.{Good};
-ghost use Rattle.search.specs.Gains.{share_on, gains_from, as_urgent, NoneFreeOn, SafeFlags};
+ghost use Rattle.search.specs.Gains.{most_total, share_on, gains_from, as_urgent, NoneFreeOn, SafeFlags};
 ghost use Rattle.search.specs.Chains.{Chain, RestSame};
 ghost use Rattle.search.specs.Founds.{Searched};
 ghost use Rattle.search.specs.Trails.{Linked, found_count, open_count, task_at, through_at, opening_of, reached, entered, empty};
@@ -12,10 +12,13 @@ ghost use Rattle.search.specs.Layers.{OpenersTo};
 ghost use Rattle.search.specs.Searches.{MayOpen, Opened, Complete, Spread, InVain, Sought, Spoken};
 
 use arrayvec::ArrayVec;
-use board::{Board, MOST_CORES, MOST_TASKS};
+use board::{Board, MOST_CORES, MOST_SLOTS, MOST_TASKS};
 use fairness::Share;
 use routes::Step;
 use rules::Rule;
+
+// The most slots that a task can hold of all cores.
+pub const MOST_TOTAL: u32 = MOST_CORES as u32 * MOST_SLOTS as u32;
 
 // A route that makes the plan fairer: who gains a slot, who loses it, and in how many steps.
 #[derive(Clone, Copy, PartialEq, Eq, Debug)]
@@ -130,7 +133,7 @@ fn open_wanted<B: Board>(board: &B, search: &mut Search, place: usize)
 pub fn share_of<B: Board>(board: &B, task: usize) -> Share
     requires { Good B.build board.now }
     ensures is { result ≡ share_on (B.build.meaning board.now) task }
-    ensures small { result.total ≤ 16000 }
+    ensures small { result.total ≤ most_total }
 {
     Share {
         task,
@@ -141,7 +144,7 @@ pub fn share_of<B: Board>(board: &B, task: usize) -> Share
 
 // Whether a slot that goes from the loser to the gainer makes a plan fairer.
 pub fn should_gain<R: Rule>(rule: &R, gainer: Share, loser: Share) -> bool
-    requires { gainer.total ≤ 16000 }
+    requires { gainer.total ≤ most_total }
     ensures { result ≡ gains_from (R.order rule.now) gainer loser }
 {
     if loser.total == 0 {
@@ -162,7 +165,7 @@ pub fn should_gain<R: Rule>(rule: &R, gainer: Share, loser: Share) -> bool
 
 // Whether the first task is at least as urgent as the second: then it should gain whatever the second should.
 fn as_urgent<R: Rule>(rule: &R, first: Share, second: Share) -> bool
-    requires { (first.total ≤ 16000) × (second.total ≤ 16000) }
+    requires { (first.total ≤ most_total) × (second.total ≤ most_total) }
     ensures { result ≡ as_urgent (R.order rule.now) first second }
 {
     let first_more = Share {

@@ -1,18 +1,13 @@
-use Rattle.std.proofs.Common.{sym, ap, ◌∙◌, subst, arith}
+use Rattle.std.proofs.Common.{arith}
 use Rattle.fairness.specs.Laws.{Comparison}
 use Rattle.board.specs.Meaning.{Meaning}
-use Rattle.search.specs.declared.Search.{Search}
-use Rattle.search.specs.Trails.{reached}
-use Rattle.search.specs.Searches.{Trying}
 use Rattle.search.proofs.Searches.{trying_start, trying-more, trying-all}
 use Rattle.search.proofs.search_from.Goals as goal
 
 pub loop-head-init : goal.loop-head-init
 loop-head-init g c =
     let m : Meaning = g.B.Board.build.meaning c.args.board.now in
-    let compare : Comparison = g.R.Rule.order c.args.rule.now in
-    let P : Search → Type 0 = λ s. Trying compare m c.args.gainer s 0 in
-    subst P (sym (c.reach.ensures ∙ ap (λ s. reached s c.args.gainer 0) c.requires.fresh)) (trying_start compare m c.args.gainer c.requires.good.sound c.requires.gainer)
+    rw (c.reach.ensures, c.requires.fresh) (trying_start (g.R.Rule.order c.args.rule.now) m c.args.gainer c.requires.good.sound c.requires.gainer)
 
 pub loop-head-preserved : goal.loop-head-preserved
 loop-head-preserved g c =

@@ -12,7 +12,7 @@ use rules::Rule;
 use search::{Found, find_route};
 
 // What the judge says of a plan.
-#[derive(Clone, Copy)]
+#[derive(Clone, Copy, PartialEq, Eq, Debug)]
 pub enum Verdict {
     // It is fairest.
     Passed,

@@ -1,12 +1,13 @@
 -- What levelling comes to.
-use Rattle.std.specs.Prelude.{◌≡◌, ℕ, ◌<◌, ◌≤◌, IfSome, Option, MatchOption}
+use Rattle.std.specs.Prelude.{◌≡◌, ℕ, ◌<◌, ◌≤◌, Option, MatchOption}
 use Rattle.fairness.specs.Laws.{Comparison}
 use Rattle.fairness.specs.Levels.{Fairer, Fairest}
 use Rattle.fairness.specs.Settled.{Settled}
 use Rattle.board.specs.Meaning.{Meaning, SameOrder, given_at, most_cores}
-use Rattle.search.specs.declared.Found.{Found}
 use Rattle.search.specs.Gains.{NoneFreeOn}
 use Rattle.levelling.specs.declared.FreePair.{FreePair}
+use Rattle.levelling.specs.declared.Improvement.{Improvement}
+use Rattle.levelling.specs.declared.Improvement.TheVariants.{Passed, Taken}
 
 -- the board's plan is fairest for its needs and capacities
 abbrev pub FairestOn : Comparison → Meaning → Type 0
@@ -44,5 +45,6 @@ abbrev pub Improved : {A : Type 0} → Comparison → Meaning → Meaning → Op
 Improved compare m n r = MatchOption r (Stands compare m n) (λ _. Better compare m n)
 
 -- and the steps by which it was made
-abbrev pub FewSteps : Option Found → Type 0
-FewSteps r = IfSome r (λ found. found.steps ≤ most_cores)
+abbrev pub FewSteps : Improvement → Type 0
+FewSteps (Passed found) = found.steps ≤ most_cores
+FewSteps (Taken task) = Unit {0}

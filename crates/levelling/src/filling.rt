@@ -1,78 +1,67 @@
 // Gives out free slots, the most urgent task first. It saves exchanges; that the plan is fairest comes from the improvements
 // that follow, so nothing more is promised here than that the order stays.
-ghost use Rattle.std.specs.Prelude.{◌<◌};
+ghost use Rattle.std.specs.Prelude.{◌<◌, IfSome};
 ghost use Rattle.board.specs.Meaning.{SameOrder, most_tasks, most_cores};
 ghost use Rattle.board.specs.Boards.{Good, Went};
 
 use board::{Board, MOST_CORES, MOST_TASKS};
 use fairness::Share;
 use rules::Rule;
+use search::{MOST_TOTAL, share_of};
 
 // Each turn gives a slot or finishes a task, so there are never more.
-const MOST_TURNS: usize = 16064;
+const MOST_TURNS: usize = MOST_TASKS + MOST_TOTAL as usize;
+
+// What the rule sees of a task, and whether it can take no more.
+#[derive(Clone, Copy)]
+struct Claim {
+    share: Share,
+    finished: bool,
+}
 
 // What is left to give, and to whom.
 #[derive(Drop)]
 struct Filling {
-    // By task: what the rule sees of it, and whether it can take no more.
-    shares: [Share; MOST_TASKS],
-    finished: [bool; MOST_TASKS],
+    // By task.
+    claims: [Claim; MOST_TASKS],
     // By core: the slots that are free.
     free: [u32; MOST_CORES],
 }
 
 impl Filling {
-    fn new() -> Filling {
-        Filling {
-            shares: [Share {
+    fn of<B: Board>(board: &B) -> Filling
+        requires { Good B.build board.now }
+    {
+        let nothing = Claim {
+            share: Share {
                 task: 0,
                 whole_need: 0,
                 total: 0,
-            }; MOST_TASKS],
-            finished: [false; MOST_TASKS],
-            free: [0; MOST_CORES],
+            },
+            finished: false,
+        };
+        let mut claims = [nothing; MOST_TASKS];
+        for (task, claim) in claims.iter_mut().enumerate().take(board.tasks()) {
+            claim.share = share_of(board, task);
         }
-    }
-
-    fn note_tasks<B: Board>(&mut self, board: &B)
-        requires { Good B.build board.now }
-    {
-        for task in 0..board.tasks() {
-            self.shares[task] = Share {
-                task,
-                whole_need: board.whole_need(task),
-                total: board.total(task),
-            };
+        let mut free = [0; MOST_CORES];
+        for (core, slots) in free.iter_mut().enumerate().take(board.cores()) {
+            *slots = board.free(core);
         }
-    }
-
-    fn note_cores<B: Board>(&mut self, board: &B)
-        requires { Good B.build board.now }
-    {
-        for core in 0..board.cores() {
-            self.free[core] = board.free(core);
-        }
+        Filling { claims, free }
     }
 
     // The task that stands lowest among those that are not finished.
-    fn most_urgent<R: Rule>(&self, rule: &R, tasks: usize) -> usize
-        ensures { result < most_tasks }
+    fn most_urgent<R: Rule>(&self, rule: &R, tasks: usize) -> Option<usize>
+        ensures { IfSome result (λ task. task < most_tasks) }
     {
-        let mut lowest = 0;
-        for task in 1..tasks.min(MOST_TASKS) {
-            if !self.finished[task]
-                && (self.finished[lowest] || self.stands_below(rule, task, lowest))
-            {
-                lowest = task;
-            }
-        }
-        lowest
-    }
-
-    fn stands_below<R: Rule>(&self, rule: &R, task: usize, other: usize) -> bool
-        requires { (task < most_tasks) × (other < most_tasks) }
-    {
-        rule.compare(self.shares[task], self.shares[other]).is_lt()
+        self.claims
+            .iter()
+            .enumerate()
+            .take(tasks)
+            .filter(|(_, claim)| !claim.finished)
+            .min_by(|(_, one), (_, other)| rule.compare(one.share, other.share))
+            .map(|(task, _)| task)
     }
 
     // The slots of the core that are free for the task.
@@ -111,13 +100,14 @@ impl Filling {
         let core = self.freest(board, task);
         let free = self.free_for(board, task, core);
         if free == 0 {
-            self.finished[task] = true;
+            self.claims[task].finished = true;
             return;
         }
         let part = (free / (board.tasks() as u32).max(1)).max(1);
         let taken = take_free(board, task, core, part);
         self.free[core] = free.saturating_sub(taken);
-        self.shares[task].total = self.shares[task].total.saturating_add(taken);
+        let share = &mut self.claims[task].share;
+        share.total = share.total.saturating_add(taken);
     }
 }
 
@@ -139,15 +129,12 @@ pub fn give_out<B: Board, R: Rule>(board: &mut B, rule: &R)
     ensures went { Went B.build board.old board.new }
     ensures order { SameOrder (B.build.meaning board.old) (B.build.meaning board.new) }
 {
-    let mut filling = Filling::new();
-    filling.note_tasks(board);
-    filling.note_cores(board);
+    let mut filling = Filling::of(board);
     let tasks = board.tasks();
-    for turn in 0..MOST_TURNS {
-        let task = filling.most_urgent(rule, tasks);
-        if filling.finished[task] {
+    for _ in 0..MOST_TURNS {
+        let Some(task) = filling.most_urgent(rule, tasks) else {
             break;
-        }
+        };
         filling.grant(board, task);
     }
 }

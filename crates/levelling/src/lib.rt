@@ -1,6 +1,7 @@
 // Levelling: free slots are given out, then single slots pass along routes, until the plan is fairest.
 #![tactic(auto)]
 
+ghost use Rattle.std.specs.Prelude.{IfSome};
 ghost use Rattle.board.specs.Meaning.{SameOrder};
 ghost use Rattle.board.specs.Boards.{Good, Went};
 ghost use Rattle.levelling.specs.Levelled.{FirstFree, Improved, FewSteps, FairestOn};
@@ -19,7 +20,7 @@ use search::{Found, find_route};
 const MOST_ROUNDS: usize = 10000;
 
 // A core with a free slot, and a task that holds less than its need there.
-#[derive(Clone, Copy)]
+#[derive(Clone, Copy, PartialEq, Eq, Debug)]
 pub struct FreePair {
     pub core: usize,
     pub task: usize,
@@ -45,33 +46,45 @@ pub fn free_pair<B: Board>(board: &B) -> Option<FreePair>
     pair
 }
 
+// How one slot made the plan fairer.
+#[derive(Clone, Copy)]
+enum Improvement {
+    // It passed along a route.
+    Passed(Found),
+    // The task took a free one.
+    Taken(usize),
+}
+
+impl Improvement {
+    // Who gained the slot.
+    fn gainer(self) -> usize {
+        match self {
+            Improvement::Passed(found) => found.gainer,
+            Improvement::Taken(task) => task,
+        }
+    }
+}
+
 // One slot makes the plan fairer: it passes along a route, which fills the first entries of the list, or a free one is taken.
-// Answers who gained it, and by how many steps from whom.
 fn improve<B: Board, R: Rule>(
     board: &mut B,
     rule: &R,
     start: usize,
     steps: &mut [Step; MOST_CORES],
-) -> Option<Found>
+) -> Option<Improvement>
     requires { Good B.build board.old }
     ensures went { Went B.build board.old board.new }
     ensures improved { Improved (R.order rule.now) (B.build.meaning board.old) (B.build.meaning board.new) result }
-    ensures few { FewSteps result }
+    ensures few { IfSome result FewSteps }
 {
     if let Some(found) = find_route(board, rule, start, steps) {
         exchange(board, &steps[..found.steps], found.loser);
-        return Some(found);
+        return Some(Improvement::Passed(found));
     }
-    let Some(pair) = free_pair(board) else {
-        return None;
-    };
-    let held = board.held(pair.task, pair.core);
-    let _ = board.set_held(pair.task, pair.core, held + 1);
-    Some(Found {
-        gainer: pair.task,
-        loser: pair.task,
-        steps: 0,
-    })
+    let FreePair { core, task } = free_pair(board)?;
+    let held = board.held(task, core);
+    let _ = board.set_held(task, core, held + 1);
+    Some(Improvement::Taken(task))
 }
 
 // Makes the plan fairest. Each search goes on from the task that gained last, which often gains again. The first rounds pass on
@@ -85,20 +98,16 @@ pub fn level<B: Board, R: Rule>(board: &mut B, rule: R)
     give_out(board, &rule);
     let mut steps = [Step { task: 0, core: 0 }; MOST_CORES];
     let mut start = 0;
-    for round in 0..MOST_ROUNDS {
-        let Some(found) = improve(board, &rule, start, &mut steps) else {
+    for _ in 0..MOST_ROUNDS {
+        let Some(improvement) = improve(board, &rule, start, &mut steps) else {
             return;
         };
-        pass_more(
-            board,
-            &rule,
-            &steps[..found.steps],
-            found.gainer,
-            found.loser,
-        );
-        start = found.gainer;
+        if let Improvement::Passed(found) = improvement {
+            pass_more(board, &rule, &steps[..found.steps], found);
+        }
+        start = improvement.gainer();
     }
-    while let Some(found) = improve(board, &rule, start, &mut steps) {
-        start = found.gainer;
+    while let Some(improvement) = improve(board, &rule, start, &mut steps) {
+        start = improvement.gainer();
     }
 }

@@ -8,7 +8,7 @@ use board::{Board, MOST_SLOTS};
 use fairness::Share;
 use routes::Step;
 use rules::Rule;
-use search::{share_of, should_gain};
+use search::{Found, MOST_TOTAL, share_of, should_gain};
 
 fn set_slots<B: Board>(board: &mut B, task: usize, core: usize, held: u16)
     requires { Good B.build board.old }
@@ -37,8 +37,7 @@ fn room_along<B: Board>(board: &B, route: &[Step], loser: usize) -> u16
 {
     let mut room = MOST_SLOTS;
     let mut giver = loser;
-    for i in (0..route.len()).rev() {
-        let step = route[i];
+    for step in route.iter().rev() {
         let wanted = board.need(step.task, step.core) - board.held(step.task, step.core);
         room = room.min(wanted).min(board.held(giver, step.core));
         giver = step.task;
@@ -51,7 +50,7 @@ fn one_more<R: Rule>(rule: &R, gainer: Share, loser: Share, gone: u32) -> bool {
     should_gain(
         rule,
         Share {
-            total: gainer.total.saturating_add(gone).min(16000),
+            total: gainer.total.saturating_add(gone).min(MOST_TOTAL),
             ..gainer
         },
         Share {
@@ -65,6 +64,7 @@ fn one_more<R: Rule>(rule: &R, gainer: Share, loser: Share, gone: u32) -> bool {
 fn fair_amount<R: Rule>(rule: &R, gainer: Share, loser: Share, room: u16) -> u16
     requires { room ≤ 1000 }
 {
+    // Halved by hand, since no list of the amounts is kept that could be searched.
     let mut fair = 0;
     let mut unfair = room + 1;
     while fair + 1 < unfair {
@@ -78,22 +78,16 @@ fn fair_amount<R: Rule>(rule: &R, gainer: Share, loser: Share, room: u16) -> u16
     fair
 }
 
-pub fn pass_more<B: Board, R: Rule>(
-    board: &mut B,
-    rule: &R,
-    route: &[Step],
-    gainer: usize,
-    loser: usize,
-)
+pub fn pass_more<B: Board, R: Rule>(board: &mut B, rule: &R, route: &[Step], found: Found)
     requires { Good B.build board.old }
     ensures went { Went B.build board.old board.new }
     ensures order { SameOrder (B.build.meaning board.old) (B.build.meaning board.new) }
 {
-    let room = room_along(board, route, loser);
-    let amount = fair_amount(rule, share_of(board, gainer), share_of(board, loser), room);
-    let mut giver = loser;
-    for i in (0..route.len()).rev() {
-        let step = route[i];
+    let gainer = share_of(board, found.gainer);
+    let loser = share_of(board, found.loser);
+    let amount = fair_amount(rule, gainer, loser, room_along(board, route, found.loser));
+    let mut giver = found.loser;
+    for step in route.iter().rev() {
         shift_many(board, step.task, step.core, giver, amount);
         giver = step.task;
     }

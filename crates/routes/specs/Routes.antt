@@ -1,5 +1,5 @@
 -- Routes as lists of steps on a board, and what an exchange along one comes to.
-use Rattle.std.specs.Prelude.{◌≡◌, ℕ, ◌<◌, cond, List, length, nat_lt, slice_index_or}
+use Rattle.std.specs.Prelude.{ℕ, ◌<◌, ◌≢◌, cond, List, length, nat_lt, slice_index_or}
 use Rattle.fairness.specs.Moves.{Moved}
 use Rattle.fairness.specs.Routes.{Route, Exchanged}
 use Rattle.board.specs.Meaning.{Meaning, SameOrder}
@@ -32,7 +32,7 @@ pub record MayShift (m : Meaning) (taker core giver : ℕ) : Type 0 where
   pub real : core < m.cores
   pub wants : m.held taker core < m.need taker core
   pub some : 0 < m.held giver core
-  pub apart : taker ≡ giver → ⊥
+  pub apart : taker ≢ giver
 
 -- it went
 pub record Shifted (m n : Meaning) (taker core giver : ℕ) : Type 0 where

@@ -8,7 +8,7 @@ use board::Board;
 
 // A task, and the core of which it takes a slot from the next task of a route. C callers lend lists of these.
 #[repr(C)]
-#[derive(Clone, Copy)]
+#[derive(Clone, Copy, PartialEq, Eq, Debug)]
 pub struct Step {
     pub task: usize,
     pub core: usize,
@@ -35,8 +35,7 @@ pub fn exchange<B: Board>(board: &mut B, route: &[Step], loser: usize)
     ensures passed { PassedAlong (B.build.meaning board.old) (B.build.meaning board.new) route.now loser }
 {
     let mut giver = loser;
-    for i in (0..route.len()).rev() {
-        let step = route[i];
+    for step in route.iter().rev() {
         shift(board, step.task, step.core, giver);
         giver = step.task;
     }

@@ -1,12 +1,12 @@
 -- A way back grows by a step; it is short; it is a route.
-use Rattle.std.proofs.Common.{◌≡◌, ℕ, zero, suc, ◌+◌, ◌-◌, ◌<◌, ◌≤◌, cond, leb, List, length, get_or, set, sym, refl, ap, ◌∙◌, inl, inr, arith, below_more}
+use Rattle.std.proofs.Common.{◌≡◌, ℕ, zero, suc, ◌+◌, ◌-◌, ◌<◌, ◌≤◌, cond, nat_le, List, length, get_or, set, sym, refl, ap, ◌∙◌, inl, inr, arith, below_more}
 use Rattle.std.proofs.lemmas.List.{get_or-set_same, get_or-set_other}
 use Rattle.std.proofs.lemmas.Bool.{cases_lt, le-leb, lt-leb, cond-true, cond-false}
 use Rattle.search.specs.declared.Search.{Search}
-use Rattle.search.specs.Trails.{task_at, through_at, core_at, opener_at, Linked}
+use Rattle.search.specs.Trails.{found_count, task_at, through_at, core_at, opener_at, Linked}
 use Rattle.routes.specs.declared.Step.{Step}
 use Rattle.routes.specs.Routes.{no_step, core_on}
-use Rattle.search.specs.Chains.{Chain, RestSame}
+use Rattle.search.specs.Chains.{Chain}
 
 pub chain-none : (s : Search) (x : ℕ) (l : List Step) → x ≡ 0 → Linked s → Chain s x l 0
 chain-none s x l e k = record {
@@ -34,7 +34,7 @@ module _ (s : Search) (x : ℕ) (l : List Step) (k : ℕ) (w : Linked s) (h : Ch
       omega arith
 
   -- a place that x opened the way to has room for one step more
-  pub chain_fits : (y : ℕ) → y < s.count → 0 < y → x ≡ opener_at s (through_at s y) → k ≤ through_at s y
+  pub chain_fits : (y : ℕ) → y < found_count s → 0 < y → x ≡ opener_at s (through_at s y) → k ≤ through_at s y
   chain_fits y yl pos e = elim (cases_lt 0 k) [
     | inl u ↦
         let q : suc (k - 1) ≡ k = omega arith in
@@ -47,12 +47,11 @@ module _ (s : Search) (x : ℕ) (l : List Step) (k : ℕ) (w : Linked s) (h : Ch
     | inr u ↦ omega arith
   ]
 
-module _ (s : Search) (y : ℕ) (l : List Step) (k : ℕ) (w : Linked s) (yl : y < s.count) (pos : 0 < y) (h : Chain s (opener_at s (through_at s y)) l k) (kl : k < length l) where
-  abbrev step : Step
-  step = record { task = task_at s (opener_at s (through_at s y)); core = core_at s (through_at s y) }
-
+-- x opened the way to y, and the step is its own
+module _ (s : Search) (x y : ℕ) (l : List Step) (k : ℕ) (step : Step) (yl : y < found_count s) (pos : 0 < y) (opened : x ≡ opener_at s (through_at s y)) (h : Chain s x l k) (kl : k < length l)
+    (own : step.task ≡ task_at s x) (way : step.core ≡ core_at s (through_at s y)) where
   at' : ℕ → ℕ
-  at' i = cond (leb i k) (h.at i) y
+  at' i = cond (nat_le i k) (h.at i) y
 
   old : (i : ℕ) → i ≤ k → at' i ≡ h.at i
   unfolding at'
@@ -69,15 +68,12 @@ module _ (s : Search) (y : ℕ) (l : List Step) (k : ℕ) (w : Linked s) (yl : y
     end = new (k + 1) (omega arith);
     next = below_more (λ i. (0 < at' (suc i)) × (at' i ≡ opener_at s (through_at s (at' (suc i))))) k
         (λ i u. rw (old (suc i) (omega arith), old i (omega arith)) (h.next i u))
-        (rw (new (suc k) (omega arith), old k (omega arith)) (pos, h.end));
+        (rw (new (suc k) (omega arith), old k (omega arith)) (pos, h.end ∙ opened));
     within = λ i u. elim (cases_lt k i) [ inl v ↦ rw (new i v) yl | inr v ↦ rw (old i v) (h.within i v) ];
     tasks = below_more (λ i. (get_or (set l k step) i no_step).task ≡ task_at s (at' i)) k
         (λ i u. ap (λ (z : Step). z.task) (get_or-set_other l k i step no_step (λ e. omega arith)) ∙ (h.tasks i u ∙ ap (task_at s) (sym (old i (omega arith)))))
-        (ap (λ (z : Step). z.task) (get_or-set_same l k step no_step kl) ∙ ap (task_at s) (sym (old k (omega arith) ∙ h.end)));
+        (ap (λ (z : Step). z.task) (get_or-set_same l k step no_step kl) ∙ (own ∙ ap (task_at s) (sym (old k (omega arith) ∙ h.end))));
     cores = below_more (λ i. core_on (set l k step) i ≡ core_at s (through_at s (at' (suc i)))) k
         (λ i u. ap (λ (z : Step). z.core) (get_or-set_other l k i step no_step (λ e. omega arith)) ∙ (h.cores i u ∙ ap (λ z. core_at s (through_at s z)) (sym (old (suc i) (omega arith)))))
-        (ap (λ (z : Step). z.core) (get_or-set_same l k step no_step kl) ∙ ap (λ z. core_at s (through_at s z)) (sym (new (suc k) (omega arith))));
+        (ap (λ (z : Step). z.core) (get_or-set_same l k step no_step kl) ∙ (way ∙ ap (λ z. core_at s (through_at s z)) (sym (new (suc k) (omega arith)))));
   }
-
-  pub rest_more : (l₀ : List Step) → RestSame l₀ l k → RestSame l₀ (set l k step) (k + 1)
-  rest_more l₀ r i u = get_or-set_other l k i step no_step (λ e. omega arith) ∙ r i (omega arith)

@@ -5,12 +5,12 @@ use Rattle.fairness.specs.Routes.{Route}
 use Rattle.board.specs.Meaning.{Meaning}
 use Rattle.routes.specs.declared.Step.{Step}
 use Rattle.search.specs.declared.Search.{Search}
-use Rattle.search.specs.Trails.{task_at, through_at, opener_at, Linked}
+use Rattle.search.specs.Trails.{found_count, open_count, task_at, through_at, opener_at, Linked}
 use Rattle.search.specs.Layers.{EarlyOpen, Gathered, Layered}
 use Rattle.search.specs.Chains.{Chain}
 use Rattle.search.proofs.Leading.{rises}
 
-module _ (m : Meaning) (s : Search) (x : ℕ) (l : List Step) (k : ℕ) (w : Linked s) (h : Chain s x l k) (xl : x < s.count)
+module _ (m : Meaning) (s : Search) (x : ℕ) (l : List Step) (k : ℕ) (w : Linked s) (h : Chain s x l k) (xl : x < found_count s)
     (layered : Layered m s) (gathered : Gathered m s) (early : (y : ℕ) → y < x → EarlyOpen m s y) where
   reaches : (i : ℕ) → i ≤ k → h.at i ≤ x
   reaches i u = elim (cases_eq i k) [
@@ -19,7 +19,7 @@ module _ (m : Meaning) (s : Search) (x : ℕ) (l : List Step) (k : ℕ) (w : Lin
   ]
 
   -- an opening by an earlier task is an earlier opening
-  opens_before : (o q : ℕ) → o < s.opens → opener_at s o < opener_at s q → o < q
+  opens_before : (o q : ℕ) → o < open_count s → opener_at s o < opener_at s q → o < q
   opens_before o q ol less = elim (cases_lt o q) [
     | inl u ↦ u
     | inr u ↦ elim (cases_eq q o) [
@@ -29,7 +29,7 @@ module _ (m : Meaning) (s : Search) (x : ℕ) (l : List Step) (k : ℕ) (w : Lin
   ]
 
   -- a task found through an earlier opening stands before
-  found_before : (y z : ℕ) → y < s.count → 0 < z → (0 < y → through_at s y < through_at s z) → y < z
+  found_before : (y z : ℕ) → y < found_count s → 0 < z → (0 < y → through_at s y < through_at s z) → y < z
   found_before y z yl pos less = elim (cases_lt y z) [
     | inl u ↦ u
     | inr u ↦ elim (cases_eq z y) [

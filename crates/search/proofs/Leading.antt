@@ -4,12 +4,12 @@ use Rattle.std.proofs.lemmas.List.{get_or-take, length-take-le}
 use Rattle.std.proofs.lemmas.Bool.{cases_lt, cases_eq}
 use Rattle.board.specs.Meaning.{Meaning}
 use Rattle.search.specs.declared.Search.{Search}
-use Rattle.search.specs.Trails.{task_at, through_at, core_at, opener_at, Linked, Trail}
+use Rattle.search.specs.Trails.{open_count, task_at, through_at, core_at, opener_at, Linked, Trail}
 use Rattle.routes.specs.declared.Step.{Step}
 use Rattle.fairness.specs.Routes.{Route}
-use Rattle.routes.specs.Routes.{no_step, task_on, core_on}
+use Rattle.routes.specs.Routes.{no_step, task_on, core_on, RouteTo}
 use Rattle.routes.proofs.Along.{task-on, loser-on}
-use Rattle.search.specs.Chains.{Chain, Leads}
+use Rattle.search.specs.Chains.{Chain}
 
 module _ (s : Search) (x : ℕ) (l : List Step) (k : ℕ) (w : Linked s) (h : Chain s x l k) where
   up : (i : ℕ) → i < k → h.at i < h.at (suc i)
@@ -24,7 +24,7 @@ module _ (s : Search) (x : ℕ) (l : List Step) (k : ℕ) (w : Linked s) (h : Ch
         | inr ne ↦ omega (arith, a, rises j (omega arith) i (omega arith))
       ]
 
-  cause : (i : ℕ) → i < k → through_at s (h.at (suc i)) < s.opens
+  cause : (i : ℕ) → i < k → through_at s (h.at (suc i)) < open_count s
   cause i u = w.cause (h.at (suc i)) (h.within (suc i) (omega arith)) (h.next i u).0
 
   by-up : (i : ℕ) → suc i < k → through_at s (h.at (suc i)) < through_at s (h.at (suc (suc i)))
@@ -61,6 +61,15 @@ module _ (s : Search) (x : ℕ) (l : List Step) (k : ℕ) (w : Linked s) (h : Ch
     no_task_twice = λ i j v u. rw (e i (omega arith), e j u) (w.apart (h.at j) (h.within j u) (h.at i) (rises j u i v));
     no_core_twice = λ i j v u. rw (f i (omega arith), f j u) (w.once (through_at s (h.at (suc j))) (cause j u) (through_at s (h.at (suc i))) (by-rises j u i v));
   }
+
+-- the first k entries of l are a route from p to q
+pub record Routed (m : Meaning) (l : List Step) (k p q : ℕ) : Type 0 where
+  pub route : RouteTo m (take k l) q
+  pub first : task_on (take k l) q 0 ≡ p
+
+-- so it is on whatever board the search was made
+abbrev pub Leads : Search → ℕ → List Step → ℕ → Type 0
+Leads s x l k = (m : Meaning) → Trail m s → 0 < x → Routed m l k (task_at s 0) (task_at s x)
 
 pub chain-leads : (s : Search) (x : ℕ) (l : List Step) (k : ℕ) → Chain s x l k → k ≤ length l → Leads s x l k
 chain-leads s x l k h kl m t pos =

@@ -4,10 +4,10 @@ use Rattle.std.proofs.lemmas.List.{get_or-set_other}
 use Rattle.std.proofs.lemmas.Bool.{cases_eq}
 use Rattle.board.specs.Meaning.{Meaning, Sound}
 use Rattle.search.specs.declared.Search.{Search}
-use Rattle.search.specs.Trails.{is_found, core_at, is_opened, reached, entered, Trail, Grown}
+use Rattle.search.specs.Trails.{open_count, is_found, core_at, is_opened, reached, entered, Trail, Grown}
 use Rattle.search.specs.Layers.{OpenersTo, GatheredTo, Layered}
 use Rattle.search.specs.Searches.{CoveredTo, MayOpen, Opened}
-use Rattle.search.proofs.Trails.{reached-trail, reached-grown, found-new, found-old, entered-trail, entered-grown, opened-new, core-new, grown-same, grown-on}
+use Rattle.search.proofs.Trails.{open-more, reached-trail, reached-grown, found-new, found-old, entered-trail, entered-grown, opened-new, core-new, grown-same, grown-on}
 use Rattle.search.proofs.Layers.{reached-layered, reached-gathered, skipped-gathered, entered-latest, entered-layered, entered-gathered}
 
 -- t is s, with core j opened by opening o, and its holders below k found
@@ -16,17 +16,17 @@ pub record Holders (m : Meaning) (s t : Search) (j o k : ℕ) : Type 0 where
   pub covered : CoveredTo m t j k
   pub grown : Grown s t
   pub open_now : is_opened t j ≡ true
-  pub last : o < t.opens
+  pub last : o < open_count t
   pub here : core_at t o ≡ j
-  pub newest : t.opens ≡ o + 1
+  pub newest : open_count t ≡ o + 1
   pub layered : Layered m t
   pub gathered : GatheredTo m t o k
   pub latest : (x : ℕ) → OpenersTo s x → OpenersTo t x
 
-pub holders-none : (m : Meaning) (s : Search) (x j : ℕ) → Sound m → MayOpen m s x j → Holders m (entered s x j) (entered s x j) j s.opens 0
-holders-none m s x j so r =
+pub holders-none : (m : Meaning) (s : Search) (x j o : ℕ) → Sound m → MayOpen m s x j → o ≡ open_count s → Holders m (entered s x j) (entered s x j) j o 0
+holders-none m s x j o so r e =
     let t = r.trail in
-    record {
+    rw e (record {
       trail = entered-trail m s x j t r.here r.real so.few_cores r.shut r.wants;
       covered = λ i k il kl on up has. elim (cases_eq i j) [
         | inl e ↦ absurd (omega (arith, up e))
@@ -34,13 +34,13 @@ holders-none m s x j so r =
       ];
       grown = grown-same (entered s x j);
       open_now = opened-new m s x j t r.here r.real so.few_cores r.shut;
-      last = omega arith;
+      last = omega (arith, open-more s x j);
       here = core-new m s x j t r.here r.real so.few_cores r.shut;
-      newest = omega arith;
+      newest = open-more s x j;
       layered = entered-layered m s x j t r.here r.real so.few_cores r.shut r.latest r.layered;
       gathered = entered-gathered m s x j t r.here r.real so.few_cores r.shut r.latest r.gathered;
       latest = λ _ all. all;
-    }
+    })
 
 module _ (m : Meaning) (s t : Search) (j o k : ℕ) (so : Sound m) (h : Holders m s t j o k) (kn : k < m.tasks) where
   pub holders-reach : is_found t k ≡ false → 0 < m.held k j → Holders m s (reached t k o) j o (k + 1)

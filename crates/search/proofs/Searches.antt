@@ -10,7 +10,7 @@ use Rattle.fairness.specs.Routes.{should_gain}
 use Rattle.fairness.proofs.Sums.{sum-eq, sum-zero}
 use Rattle.board.specs.Meaning.{Meaning, Sound}
 use Rattle.search.specs.declared.Search.{Search}
-use Rattle.search.specs.Trails.{task_at, is_found, reached, empty, Trail}
+use Rattle.search.specs.Trails.{found_count, task_at, is_found, reached, empty, Trail}
 use Rattle.search.specs.Layers.{EarlyOpen, Layered}
 use Rattle.search.specs.Searches.{SweptTo, Spread, Trying, InVain}
 use Rattle.search.specs.Gains.{share_on, gains_from, as_urgent, NoneFreeOn, SafeOn}
@@ -32,7 +32,7 @@ module _ (compare : Comparison) (m : Meaning) (p : ℕ) (so : Sound m) (pn : p <
   start-trail : Trail m (reached empty p 0)
   start-trail = record {
     linked = record {
-      sized = record { tasks = refl; through = refl; found = simp length-set refl; cores = refl; openers = refl; opened = refl };
+      sized = record { found = simp length-set refl; opened = refl };
       some = omega arith;
       room = omega arith;
       limit = omega arith;
@@ -71,7 +71,7 @@ module _ (compare : Comparison) (m : Meaning) (p : ℕ) (so : Sound m) (pn : p <
     fails = λ x l. absurd (omega arith);
   }
 
-  pub trying-more : (s t : Search) (h : ℕ) → Trying compare m p s h → h < s.count → gains_from compare (share_on m p) (share_on m (task_at s h)) ≡ false → Spread m s t h m.cores → Trying compare m p t (h + 1)
+  pub trying-more : (s t : Search) (h : ℕ) → Trying compare m p s h → h < found_count s → gains_from compare (share_on m p) (share_on m (task_at s h)) ≡ false → Spread m s t h m.cores → Trying compare m p t (h + 1)
   trying-more s t h y l fail sp = record {
     complete = sp.complete;
     first = sp.grown.same 0 (omega arith) ∙ y.first;
@@ -82,7 +82,7 @@ module _ (compare : Comparison) (m : Meaning) (p : ℕ) (so : Sound m) (pn : p <
   }
 
   -- of the tasks found, none that is no more urgent than p should gain from another
-  found-safe : Lawful compare → (s : Search) (h : ℕ) → Trying compare m p s h → s.count ≤ h → NoneFreeOn m → (task : ℕ) → is_found s task ≡ true → as_urgent compare (share_on m p) (share_on m task) ≡ true → SafeOn compare m task
+  found-safe : Lawful compare → (s : Search) (h : ℕ) → Trying compare m p s h → found_count s ≤ h → NoneFreeOn m → (task : ℕ) → is_found s task ≡ true → as_urgent compare (share_on m p) (share_on m task) ≡ true → SafeOn compare m task
   found-safe lawful s h y all none task found urgent =
       let t = y.complete.trail in
       let at : (i : ℕ) → i < m.tasks → is_found s i ≡ true → (x : ℕ) × (x < h) × (task_at s x ≡ i) = λ i l f. let w = t.placed i l f in (w.0, omega (arith, w.1), w.2) in
@@ -102,7 +102,7 @@ module _ (compare : Comparison) (m : Meaning) (p : ℕ) (so : Sound m) (pn : p <
             not-true _ (λ gains. both_ways _ never (gains-follow compare lawful (share_on m p) (share_on m task) (share_on m q) urgent gains));
       }
 
-  pub trying-all : Lawful compare → (s : Search) (h : ℕ) → Trying compare m p s h → s.count ≤ h → NoneFreeOn m → InVain compare m p s
+  pub trying-all : Lawful compare → (s : Search) (h : ℕ) → Trying compare m p s h → found_count s ≤ h → NoneFreeOn m → InVain compare m p s
   trying-all lawful s h y all none =
       let t = y.complete.trail in
       record {

@@ -1,26 +1,15 @@
 -- Shares of the tasks of a board, and the test made on them.
-use Rattle.std.proofs.Common.{◌≡◌, ℕ, ◌<◌, ◌≤◌, Bool, true, false, ltb, sym, refl, ap, ◌∙◌, arith}
-use Rattle.fairness.specs.declared.Share.{Share}
+use Rattle.std.proofs.Common.{◌≡◌, ℕ, ◌<◌, ◌≤◌, true, false, ltb, refl, arith}
 use Rattle.std.proofs.lemmas.Bool.{both_ways, and_parts, ltb-true}
 use Rattle.fairness.specs.Laws.{Comparison, Lawful}
 use Rattle.fairness.specs.Routes.{should_gain, fallen}
-use Rattle.board.specs.Meaning.{Meaning, Sound, total_of, whole_need_of}
+use Rattle.board.specs.Meaning.{Meaning, Sound, total_of}
 use Rattle.board.proofs.Bounds.{sum_bound, held_small}
-use Rattle.search.specs.Gains.{share_on, gains_from, as_urgent}
-
-pub share-is : (m : Meaning) (task whole total : ℕ) → whole ≡ whole_need_of m task → total ≡ total_of m task
-    → ◌≡◌ {A = Share} (record { task = task; whole_need = whole; total = total }) (share_on m task)
-share-is m task whole total e f =
-    let share : ℕ → ℕ → Share = λ w s. record { task = task; whole_need = w; total = s } in
-    ap (λ w. share w total) e ∙ ap (share (whole_need_of m task)) f
+use Rattle.search.specs.Gains.{share_on, gains_from}
 
 -- so a rule tells each of a task's totals from the next
 pub share-small : (m : Meaning) → Sound m → (task : ℕ) → total_of m task ≤ 16000
 share-small m so task = omega (arith, sum_bound m.cores (m.held task) 1000 (held_small m so task), so.few_cores)
-
--- the test, made on shares that are those of the board
-pub by-shares : (compare : Comparison) (m : Meaning) (p q : ℕ) (a b : Share) (r : Bool) → a ≡ share_on m p → b ≡ share_on m q → r ≡ gains_from compare a b → gains_from compare (share_on m p) (share_on m q) ≡ r
-by-shares compare m p q a b r e f h = sym (h ∙ (ap (λ (x : Share). gains_from compare x b) e ∙ ap (λ (x : Share). gains_from compare (share_on m p) x) f))
 
 -- no task should gain from itself
 pub not_own : (compare : Comparison) → Lawful compare → (m : Meaning) → Sound m → (task : ℕ) → gains_from compare (share_on m task) (share_on m task) ≡ true → ⊥
@@ -30,7 +19,3 @@ not_own compare lawful m so task h =
     let up = lawful.rising (fallen (share_on m task)) (share_on m task) refl refl (omega arith) (share-small m so task) in
     let no : should_gain compare (share_on m task) (share_on m task) ≡ false = rw up refl in
     both_ways _ no a.1
-
--- the same of the comparison of two tasks' urgency
-pub urgent-by-shares : (compare : Comparison) (m : Meaning) (p q : ℕ) (a b : Share) (r : Bool) → a ≡ share_on m p → b ≡ share_on m q → r ≡ as_urgent compare a b → as_urgent compare (share_on m p) (share_on m q) ≡ r
-urgent-by-shares compare m p q a b r e f h = sym (h ∙ (ap (λ (x : Share). as_urgent compare x b) e ∙ ap (λ (x : Share). as_urgent compare (share_on m p) x) f))

@@ -1,12 +1,16 @@
 -- When a task of a board should gain a slot from another.
-use Rattle.std.specs.Prelude.{◌≡◌, ℕ, ◌<◌, Bool, true, false, ◌&&◌, ◌||◌, List, nat_lt, slice_index_or}
+use Rattle.std.specs.Prelude.{◌≡◌, ℕ, ◌*◌, ◌<◌, Bool, true, false, ◌&&◌, ◌||◌, List, nat_lt, slice_index_or}
 use Rattle.std.specs.Ordering.{is_le, is_lt, is_eq}
 use Rattle.fairness.specs.declared.Share.{Share}
 use Rattle.fairness.specs.Laws.{Comparison}
 use Rattle.fairness.specs.Levels.{share_of}
 use Rattle.fairness.specs.Routes.{should_gain, risen}
 use Rattle.fairness.specs.Settled.{Safe, NoneFree}
-use Rattle.board.specs.Meaning.{Meaning}
+use Rattle.board.specs.Meaning.{Meaning, most_cores, most_slots}
+
+-- the most slots that a task can hold of all cores
+abbrev pub most_total : ℕ
+most_total = most_cores * most_slots
 
 -- what a rule is told of a task of the board
 abbrev pub share_on : Meaning → ℕ → Share

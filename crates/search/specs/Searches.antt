@@ -4,7 +4,7 @@ use Rattle.fairness.specs.Laws.{Comparison}
 use Rattle.board.specs.Meaning.{Meaning}
 use Rattle.search.specs.declared.Search.{Search}
 use Rattle.search.specs.Gains.{share_on, gains_from, as_urgent, NoneFreeOn, SafeOn}
-use Rattle.search.specs.Trails.{task_at, is_found, opener_at, is_opened, Trail, Grown}
+use Rattle.search.specs.Trails.{open_count, found_count, task_at, is_found, opener_at, is_opened, Trail, Grown}
 use Rattle.search.specs.Layers.{OpenersTo, EarlyOpen, Gathered, Layered}
 
 -- each holder of an open core is found
@@ -23,7 +23,7 @@ SweptTo m s x b = (j : ℕ) → j < b → m.held (task_at s x) j < m.need (task_
 pub record MayOpen (m : Meaning) (s : Search) (x j : ℕ) : Type 0 where
   pub trail : Trail m s
   pub covered : Covered m s
-  pub here : x < s.count
+  pub here : x < found_count s
   pub real : j < m.cores
   pub shut : is_opened s j ≡ false
   pub wants : m.held (task_at s x) j < m.need (task_at s x) j
@@ -61,14 +61,14 @@ pub record Trying (compare : Comparison) (m : Meaning) (p : ℕ) (s : Search) (h
   pub first : task_at s 0 ≡ p
   pub swept : (x : ℕ) → x < h → SweptTo m s x m.cores
   pub early : (x : ℕ) → x < h → EarlyOpen m s x
-  pub latest : (o : ℕ) → o < s.opens → opener_at s o < h
+  pub latest : (o : ℕ) → o < open_count s → opener_at s o < h
   pub fails : (x : ℕ) → x < h → gains_from compare (share_on m p) (share_on m (task_at s x)) ≡ false
 
 -- the search began at p, and p should gain a slot from the task at place x
 pub record Gain (compare : Comparison) (m : Meaning) (p : ℕ) (s : Search) (x : ℕ) : Type 0 where
   pub trail : Trail m s
   pub first : task_at s 0 ≡ p
-  pub here : x < s.count
+  pub here : x < found_count s
   pub gains : gains_from compare (share_on m p) (share_on m (task_at s x)) ≡ true
   pub layered : Layered m s
   pub gathered : Gathered m s

@@ -4,42 +4,53 @@
 ghost use Rattle.std.specs.Prelude.{◌≡◌, ◌+◌, ◌<◌, ◌≤◌, length};
 ghost use Rattle.board.specs.Meaning.{most_tasks, most_cores};
 ghost use Rattle.board.specs.Boards.{Good};
-ghost use Rattle.search.specs.Gains.{share_on, gains_from, as_urgent, NoneFreeOn, SafeFlags};
-ghost use Rattle.search.specs.Chains.{Chain, Leads, RestSame};
+ghost use Rattle.search.specs.Gains.{most_total, share_on, gains_from, as_urgent, NoneFreeOn, SafeFlags};
+ghost use Rattle.search.specs.Chains.{Chain, RestSame};
 ghost use Rattle.search.specs.Founds.{Searched};
-ghost use Rattle.search.specs.Trails.{Linked, reached, entered, empty};
+ghost use Rattle.search.specs.Trails.{Linked, found_count, open_count, task_at, through_at, opening_of, reached, entered, empty};
 ghost use Rattle.search.specs.Layers.{OpenersTo};
 ghost use Rattle.search.specs.Searches.{MayOpen, Opened, Complete, Spread, InVain, Sought, Spoken};
 
-use board::{Board, MOST_CORES, MOST_TASKS};
+use arrayvec::ArrayVec;
+use board::{Board, MOST_CORES, MOST_SLOTS, MOST_TASKS};
 use fairness::Share;
 use routes::Step;
 use rules::Rule;
-use std::cmp::Ordering;
+
+// The most slots that a task can hold of all cores.
+pub const MOST_TOTAL: u32 = MOST_CORES as u32 * MOST_SLOTS as u32;
 
 // A route that makes the plan fairer: who gains a slot, who loses it, and in how many steps.
-#[derive(Clone, Copy)]
+#[derive(Clone, Copy, PartialEq, Eq, Debug)]
 pub struct Found {
     pub gainer: usize,
     pub loser: usize,
     pub steps: usize,
 }
 
+// A task found, and the opening through which it was found. The gainer, the first of all, has none, and 0 stands there.
+#[derive(Clone, Copy, Default, Drop)]
+struct Seen {
+    task: usize,
+    opening: usize,
+}
+
+// A core opened, and the place of the task that opened it.
+#[derive(Clone, Copy, Default, Drop)]
+struct Opening {
+    core: usize,
+    opener: usize,
+}
+
 // What a search has come to: the tasks found and the cores opened, each in order.
 #[derive(Drop)]
 struct Search {
-    // By place: the task, and the opening through which it was found.
-    tasks: [usize; MOST_TASKS],
-    through: [usize; MOST_TASKS],
+    seen: ArrayVec<Seen, MOST_TASKS>,
     // By task.
     found: [bool; MOST_TASKS],
-    count: usize,
-    // By opening: the core, and the place of the task that opened it.
-    cores: [usize; MOST_CORES],
-    openers: [usize; MOST_CORES],
+    openings: ArrayVec<Opening, MOST_CORES>,
     // By core.
     opened: [bool; MOST_CORES],
-    opens: usize,
 }
 
 impl Search {
@@ -47,37 +58,43 @@ impl Search {
         ensures { result ≡ empty }
     {
         Search {
-            tasks: [0; MOST_TASKS],
-            through: [0; MOST_TASKS],
+            seen: ArrayVec::new(),
             found: [false; MOST_TASKS],
-            count: 0,
-            cores: [0; MOST_CORES],
-            openers: [0; MOST_CORES],
+            openings: ArrayVec::new(),
             opened: [false; MOST_CORES],
-            opens: 0,
         }
     }
 
     fn reach(&mut self, task: usize, opening: usize)
-        requires { (self.old.count < most_tasks) × (task < most_tasks) }
+        requires { (found_count self.old < most_tasks) × (task < most_tasks) }
         ensures { self.new ≡ reached self.old task opening }
     {
-        let place = self.count;
-        self.tasks[place] = task;
-        self.through[place] = opening;
+        self.seen.push(Seen { task, opening });
         self.found[task] = true;
-        self.count = place + 1;
     }
 
-    fn enter(&mut self, place: usize, core: usize)
-        requires { (self.old.opens < most_cores) × (core < most_cores) }
-        ensures { self.new ≡ entered self.old place core }
+    // The task found at the place.
+    fn task_at(&self, place: usize) -> usize
+        requires { place < found_count self.now }
+        ensures { result ≡ task_at self.now place }
     {
-        let opening = self.opens;
-        self.cores[opening] = core;
-        self.openers[opening] = place;
+        self.seen[place].task
+    }
+
+    // The opening through which the task at the place was found.
+    fn opening_of(&self, place: usize) -> Opening
+        requires { (place < found_count self.now) × (through_at self.now place < open_count self.now) }
+        ensures { result ≡ opening_of self.now place }
+    {
+        self.openings[self.seen[place].opening]
+    }
+
+    fn enter(&mut self, opener: usize, core: usize)
+        requires { (open_count self.old < most_cores) × (core < most_cores) }
+        ensures { self.new ≡ entered self.old opener core }
+    {
+        self.openings.push(Opening { core, opener });
         self.opened[core] = true;
-        self.opens = opening + 1;
     }
 }
 
@@ -87,7 +104,7 @@ fn open_core<B: Board>(board: &B, search: &mut Search, place: usize, core: usize
     requires start { MayOpen (B.build.meaning board.now) search.old place core }
     ensures { Opened (B.build.meaning board.now) search.old search.new place core }
 {
-    let opening = search.opens;
+    let opening = search.openings.len();
     search.enter(place, core);
     for task in 0..board.tasks() {
         if !search.found[task] && board.held(task, core) > 0 {
@@ -100,11 +117,11 @@ fn open_core<B: Board>(board: &B, search: &mut Search, place: usize, core: usize
 fn open_wanted<B: Board>(board: &B, search: &mut Search, place: usize)
     requires good { Good B.build board.now }
     requires complete { Complete (B.build.meaning board.now) search.old }
-    requires place { place < search.old.count }
+    requires place { place < found_count search.old }
     requires latest { OpenersTo search.old place }
     ensures { Spread (B.build.meaning board.now) search.old search.new place (B.build.meaning board.now).cores }
 {
-    let task = search.tasks[place];
+    let task = search.task_at(place);
     for core in 0..board.cores() {
         if !search.opened[core] && board.held(task, core) < board.need(task, core) {
             open_core(board, search, place, core);
@@ -116,7 +133,7 @@ fn open_wanted<B: Board>(board: &B, search: &mut Search, place: usize)
 pub fn share_of<B: Board>(board: &B, task: usize) -> Share
     requires { Good B.build board.now }
     ensures is { result ≡ share_on (B.build.meaning board.now) task }
-    ensures small { result.total ≤ 16000 }
+    ensures small { result.total ≤ most_total }
 {
     Share {
         task,
@@ -127,7 +144,7 @@ pub fn share_of<B: Board>(board: &B, task: usize) -> Share
 
 // Whether a slot that goes from the loser to the gainer makes a plan fairer.
 pub fn should_gain<R: Rule>(rule: &R, gainer: Share, loser: Share) -> bool
-    requires { gainer.total ≤ 16000 }
+    requires { gainer.total ≤ most_total }
     ensures { result ≡ gains_from (R.order rule.now) gainer loser }
 {
     if loser.total == 0 {
@@ -137,46 +154,31 @@ pub fn should_gain<R: Rule>(rule: &R, gainer: Share, loser: Share) -> bool
         total: loser.total - 1,
         ..loser
     };
-    match rule.compare(gainer, without) {
-        Ordering::Less => true,
-        Ordering::Greater => false,
-        Ordering::Equal => match rule.compare(
-            loser,
-            Share {
-                total: gainer.total + 1,
-                ..gainer
-            },
-        ) {
-            Ordering::Less => true,
-            Ordering::Equal => false,
-            Ordering::Greater => false,
-        },
-    }
+    let more = Share {
+        total: gainer.total + 1,
+        ..gainer
+    };
+    rule.compare(gainer, without)
+        .then_with(|| rule.compare(loser, more))
+        .is_lt()
 }
 
 // Whether the first task is at least as urgent as the second: then it should gain whatever the second should.
 fn as_urgent<R: Rule>(rule: &R, first: Share, second: Share) -> bool
-    requires { (first.total ≤ 16000) × (second.total ≤ 16000) }
+    requires { (first.total ≤ most_total) × (second.total ≤ most_total) }
     ensures { result ≡ as_urgent (R.order rule.now) first second }
 {
-    match rule.compare(first, second) {
-        Ordering::Less => true,
-        Ordering::Greater => false,
-        Ordering::Equal => match rule.compare(
-            Share {
-                total: second.total + 1,
-                ..second
-            },
-            Share {
-                total: first.total + 1,
-                ..first
-            },
-        ) {
-            Ordering::Less => true,
-            Ordering::Equal => true,
-            Ordering::Greater => false,
-        },
-    }
+    let first_more = Share {
+        total: first.total + 1,
+        ..first
+    };
+    let second_more = Share {
+        total: second.total + 1,
+        ..second
+    };
+    rule.compare(first, second)
+        .then_with(|| rule.compare(second_more, first_more))
+        .is_le()
 }
 
 // The place in the search of the first task found that should lose a slot to the gainer.
@@ -188,15 +190,16 @@ fn search_from<B: Board, R: Rule>(
 ) -> Option<usize>
     requires good { Good B.build board.now }
     requires gainer { gainer < (B.build.meaning board.now).tasks }
+    requires fresh { search.old ≡ empty }
     ensures sought { Sought (R.order rule.now) (B.build.meaning board.now) gainer search.new result }
     ensures spoken { Spoken (R.order rule.now) (B.build.meaning board.now) gainer search.new result }
 {
-    *search = Search::new();
     search.reach(gainer, 0);
     let share = share_of(board, gainer);
+    // An index, since the list grows while it is walked.
     let mut head = 0;
-    while head < search.count {
-        if should_gain(rule, share, share_of(board, search.tasks[head])) {
+    while head < search.seen.len() {
+        if should_gain(rule, share, share_of(board, search.task_at(head))) {
             return Some(head);
         }
         open_wanted(board, search, head);
@@ -205,10 +208,10 @@ fn search_from<B: Board, R: Rule>(
     None
 }
 
-// Writes the steps by which the search came to the place, first the gainer's, and says how many they are.
+// Writes the route by which the search came to the place, first the gainer's step, and says how many steps it has.
 fn write_route(search: &Search, place: usize, steps: &mut [Step]) -> usize
     requires linked { Linked search.now }
-    requires place { place < search.now.count }
+    requires place { place < found_count search.now }
     requires room { most_cores ≤ length steps.old }
     ensures chain { Chain search.now place steps.new result }
     ensures few { result ≤ most_cores }
@@ -217,27 +220,13 @@ fn write_route(search: &Search, place: usize, steps: &mut [Step]) -> usize
     if place == 0 {
         return 0;
     }
-    let opening = search.through[place];
-    let opener = search.openers[opening];
-    let count = write_route(search, opener, steps);
+    let opening = search.opening_of(place);
+    let count = write_route(search, opening.opener, steps);
     steps[count] = Step {
-        task: search.tasks[opener],
-        core: search.cores[opening],
+        task: search.task_at(opening.opener),
+        core: opening.core,
     };
     count + 1
-}
-
-// Writes the route by which the search came to the place, and says how many steps it has.
-fn route_to(search: &Search, place: usize, steps: &mut [Step]) -> usize
-    requires linked { Linked search.now }
-    requires place { place < search.now.count }
-    requires room { most_cores ≤ length steps.old }
-    ensures leads { Leads search.now place steps.new result }
-    ensures chain { Chain search.now place steps.new result }
-    ensures few { result ≤ most_cores }
-    ensures rest { RestSame steps.old steps.new result }
-{
-    write_route(search, place, steps)
 }
 
 // Flags the tasks that a search from the gainer has found in vain, as far as they are no more urgent than it.
@@ -255,10 +244,7 @@ fn flag_safe<B: Board, R: Rule>(
 {
     let share = share_of(board, gainer);
     for task in 0..board.tasks() {
-        if !search.found[task] {
-            continue;
-        }
-        if as_urgent(rule, share, share_of(board, task)) {
+        if search.found[task] && as_urgent(rule, share, share_of(board, task)) {
             safe[task] = true;
         }
     }
@@ -284,10 +270,10 @@ fn route_from<B: Board, R: Rule>(
         flag_safe(board, rule, gainer, &search, safe);
         return None;
     };
-    let count = route_to(&search, place, steps);
+    let count = write_route(&search, place, steps);
     Some(Found {
         gainer,
-        loser: search.tasks[place],
+        loser: search.task_at(place),
         steps: count,
     })
 }
@@ -332,7 +318,7 @@ pub fn find_route<B: Board, R: Rule>(
     ensures { Searched (R.order rule.now) (B.build.meaning board.now) 0 (B.build.meaning board.now).tasks steps.old steps.new result }
 {
     let tasks = board.tasks();
-    let first = if start < tasks { start } else { 0 };
+    let first = start.min(tasks);
     let mut safe = [false; MOST_TASKS];
     if let Some(found) = route_among(board, rule, first, tasks, steps, &mut safe) {
         return Some(found);

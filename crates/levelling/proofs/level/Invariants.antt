@@ -3,15 +3,15 @@ use Rattle.board.specs.Boards.{Went}
 use Rattle.levelling.proofs.Measure.{unfairness}
 use Rattle.levelling.proofs.level.Given as goal
 
-abbrev pub invariant-loop-round : goal.invariant-loop-round
-invariant-loop-round g l =
+abbrev pub invariant-loop : goal.invariant-loop
+invariant-loop g l =
     let b = g.B.Board in
-    Went b.build l.initial.board l.board × SameOrder (b.build.meaning l.initial.board) (b.build.meaning l.board)
+    Went b.build l.fn.board l.board × SameOrder (b.build.meaning l.fn.board) (b.build.meaning l.board)
 
-abbrev pub invariant-loop-found : goal.invariant-loop-found
-invariant-loop-found g l =
+abbrev pub invariant-loop-improvement : goal.invariant-loop-improvement
+invariant-loop-improvement g l =
     let b = g.B.Board in
-    Went b.build l.initial.board l.board × SameOrder (b.build.meaning l.initial.board) (b.build.meaning l.board)
+    Went b.build l.fn.board l.board × SameOrder (b.build.meaning l.fn.board) (b.build.meaning l.board)
 
-abbrev pub decreases-loop-found : goal.decreases-loop-found
-decreases-loop-found g l = unfairness (g.R.Rule.order l.rule) (g.B.Board.build.meaning l.board)
+abbrev pub decreases-loop-improvement : goal.decreases-loop-improvement
+decreases-loop-improvement g l = unfairness (g.R.Rule.order l.rule) (g.B.Board.build.meaning l.board)

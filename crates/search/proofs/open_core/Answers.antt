@@ -16,8 +16,8 @@ enter-requires g c =
 pub loop-task-init : goal.loop-task-init
 loop-task-init g c =
     let m : Meaning = g.B.Board.build.meaning c.args.board.now in
-    let P : Search → Type 0 = λ s. Holders m s s c.args.core c.args.search.now.opens 0 in
-    subst P (sym c.enter.ensures) (holders-none m c.args.search.now c.args.place c.args.core c.requires.good.sound c.requires.start)
+    let P : Search → Type 0 = λ s. Holders m s s c.args.core c.len-opening.result 0 in
+    subst P (sym c.enter.ensures) (holders-none m c.args.search.now c.args.place c.args.core _ c.requires.good.sound c.requires.start c.len-opening.ensures.value)
 
 pub reach-requires : goal.reach-requires
 reach-requires g c =
@@ -26,7 +26,7 @@ reach-requires g c =
     let so = c.requires.good.sound in
     let kn : c.loop-task.task < m.tasks = omega arith in
     let few : m.tasks ≤ 64 = so.few_tasks in
-    (omega (arith, reach-room m c.loop-task.search c.loop-task.task c.args.search.now.opens h.trail kn few c.if-not-search-task.true h.last), omega arith)
+    (omega (arith, reach-room m c.loop-task.search c.loop-task.task c.len-opening.result h.trail kn few c.if-not-search-task.true h.last), omega arith)
 
 pub loop-task-preserved : goal.loop-task-preserved
 loop-task-preserved g c =
@@ -34,7 +34,7 @@ loop-task-preserved g c =
     let s : Search = c.enter.new.self in
     let t : Search = c.loop-task.search in
     let j = c.args.core in
-    let o = c.args.search.now.opens in
+    let o = c.len-opening.result in
     let k = c.loop-task.task in
     let kn : k < m.tasks = omega arith in
     let P : Search → Type 0 = λ u. Holders m s u j o (k + 1) in
@@ -50,5 +50,5 @@ loop-task-preserved g c =
 
 pub returns : goal.returns
 returns g c =
-    holders-all (g.B.Board.build.meaning c.args.board.now) c.args.search.now c.enter.new.self c.loop-task.search c.args.place c.args.core c.args.search.now.opens c.loop-task.task
+    holders-all (g.B.Board.build.meaning c.args.board.now) c.args.search.now c.enter.new.self c.loop-task.search c.args.place c.args.core c.len-opening.result c.loop-task.task
     c.requires.good.sound c.requires.start c.enter.ensures c.loop-task.invariant (omega arith)

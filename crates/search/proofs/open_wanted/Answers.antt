@@ -22,7 +22,7 @@ loop-core-preserved g c =
           subst P (sym w.search-is) (spread-open m s t x b c.requires.place c.loop-core.invariant w.open_core.new.search w.open_core.ensures)
       | else-not-search-core w ↦
           subst P (sym w.search-is) (spread-skip m s t x b c.requires.place c.loop-core.invariant (elim w.else-not-search-core.branch [
-            | else-not-search-core-via-then-not-search-core+else-held-need w' ↦ inr (omega (arith, w'.if-held-need.false, w'.held.ensures, w'.need.ensures))
+            | else-not-search-core-via-then-not-search-core+else-held-need w' ↦ inr (rw (sym c.task_at-task.ensures) (omega (arith, w'.if-held-need.false, w'.held.ensures, w'.need.ensures)))
             | else-not-search-core-via-else-not-search-core w' ↦ inl w'.if-not-search-core.false
           ]))
     ]

@@ -1,5 +1,5 @@
 use Rattle.std.proofs.Common.{◌≤◌}
 use Rattle.levelling.proofs.passing.room_along.Given as goal
 
-abbrev pub invariant-loop-i : goal.invariant-loop-i
-invariant-loop-i g l = l.room ≤ 1000
+abbrev pub invariant-loop-step : goal.invariant-loop-step
+invariant-loop-step g l = l.room ≤ 1000

@@ -1,7 +1,7 @@
 -- What the reader does with one record.
 use Rattle.std.specs.Prelude.{◌≡◌, ◌+◌, List, Ok, Err, Result}
 use Rattle.board.specs.declared.fault.Fault.{Fault}
-use Rattle.board.specs.Meaning.{Meaning, cleared}
+use Rattle.board.specs.Meaning.{cleared}
 use Rattle.board.specs.Boards.{Build, Good}
 use Rattle.tasks.specs.Rows.{Row}
 use Rattle.records.specs.Cuts.{Cut}

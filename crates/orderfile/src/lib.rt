@@ -27,21 +27,17 @@ pub fn sizes(file: &[u8]) -> Result<(u8, u8, u8), Fault>
 {
     let mut records = Records::open(file)?;
     let first = records.next()?;
-    let Kind::Head = first.kind else {
+    if first.kind != Kind::Head {
         return Err(Refusal::KindOutOfTurn.at(first.place));
-    };
-    match head_fields(first.body) {
-        Ok(head) => Ok((head.letter, head.tasks, head.cores)),
-        Err(refusal) => Err(refusal.at(first.place)),
     }
+    let head = head_fields(first.body).map_err(|refusal| refusal.at(first.place))?;
+    Ok((head.letter, head.tasks, head.cores))
 }
 
 // Where the sizes are refused, reading is refused with the same fault.
-pub fn sizes_are_refused_as_read() -> u8
+pub fn sizes_are_refused_as_read()
     ensures { SizesRefusedAsRead }
-{
-    0
-}
+{}
 
 // Fills the board and the task table with what the file says, and answers its letter; refused, both are clear.
 pub fn read<B: Board>(file: &[u8], board: &mut B, tasks: &mut TaskTable) -> Result<u8, Fault>
@@ -52,14 +48,12 @@ pub fn read<B: Board>(file: &[u8], board: &mut B, tasks: &mut TaskTable) -> Resu
 {
     board.clear();
     tasks.clear();
-    match read_records(file, board, tasks) {
-        Ok(letter) => Ok(letter),
-        Err(fault) => {
-            board.clear();
-            tasks.clear();
-            Err(fault)
-        }
+    let letter = read_records(file, board, tasks);
+    if letter.is_err() {
+        board.clear();
+        tasks.clear();
     }
+    letter
 }
 
 // Reads record after record, up to the end record and the file's last byte.
@@ -69,6 +63,7 @@ fn read_records<B: Board>(file: &[u8], board: &mut B, tasks: &mut TaskTable) -> 
 {
     let mut records = Records::open(file)?;
     let mut reader = Reader::new(board.tasks(), board.cores());
+    // Counted by hand: the loop goes by the end record, and not by the number of records.
     let mut seen = 0;
     while !reader.ended() {
         let found = records.next()?;
@@ -105,14 +100,8 @@ fn take<B: Board>(
     ensures { Took B.build board.old board.new (reading reader.old seen (B.build.meaning board.old) (rows tasks.old)) (plain found.entry) reader.new (rows tasks.new) result }
 {
     let place = found.place;
-    match reader.line(found, seen) {
-        Ok(line) => match apply(line, board, tasks) {
-            Ok(()) => Ok(()),
-            Err(fault) => Err(Fault {
-                refusal: fault.refusal,
-                place,
-            }),
-        },
-        Err(refusal) => Err(Fault { refusal, place }),
-    }
+    let line = reader
+        .line(found, seen)
+        .map_err(|refusal| refusal.at(place))?;
+    apply(line, board, tasks).map_err(|fault| fault.refusal.at(place))
 }

@@ -6,7 +6,8 @@ use Rattle.std.proofs.lemmas.Slice.Eq.{bytes_eq-Decides}
 use Rattle.std.proofs.lemmas.List.{take_more, take_all, length-take-le}
 use Rattle.std.proofs.lemmas.Bool.{cond-true, cond-false, eq-eqb, ne_eqb}
 use Rattle.board.specs.Meaning.{Meaning}
-use Rattle.tasks.specs.Rows.{Row, row, taken, good_weight, good_name, sound}
+use Rattle.tasks.specs.Rows.{Row, row, taken, good_weight, sound}
+use Rattle.tasks.specs.Names.{good_name}
 use Rattle.tasks.specs.Table.{no_row, name_in, weight_in, push_why, answered, unless_refused}
 use Rattle.records.specs.declared.kind.Kind.TheVariants as kind
 use Rattle.records.specs.Fields.{TaskSaid, task_in}

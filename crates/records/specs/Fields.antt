@@ -1,5 +1,6 @@
 -- The numbers in the body of each kind of record; none where the body has another length.
-use Rattle.std.specs.Prelude.{ℕ, ◌-◌, cond, List, length, take, drop, Some, None, Option, ◌==◌, nat_lt, slice_index}
+use Rattle.std.specs.Prelude.{ℕ, ◌-◌, cond, List, length, take, drop, Some, None, Ok, Err, Option, Result, ◌==◌, nat_lt, slice_index}
+use Rattle.board.specs.declared.fault.Refusal.{Refusal}
 use Rattle.records.specs.declared.fields.HeadLine.{HeadLine}
 use Rattle.records.specs.declared.fields.CoreLine.{CoreLine}
 use Rattle.records.specs.declared.fields.TaskLine.{TaskLine}
@@ -21,9 +22,9 @@ pub record TaskSaid : Type 0 where
 abbrev pub said : TaskLine → TaskSaid
 said line = record { task = line.task; weight = line.weight; name = line.name.now }
 
-abbrev pub task_seen : Option TaskLine → Option TaskSaid
-task_seen (Some line) = Some (said line)
-task_seen None = None
+abbrev pub task_seen : Result TaskLine Refusal → Result TaskSaid Refusal
+task_seen (Ok line) = Ok (said line)
+task_seen (Err why) = Err why
 
 abbrev pub task_in : List ℕ → Option TaskSaid
 task_in body =

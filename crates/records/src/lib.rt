@@ -2,7 +2,7 @@
 #![tactic(auto)]
 
 ghost use Rattle.std.specs.Prelude.{◌≡◌, ◌+◌, ◌<◌, length};
-ghost use Rattle.records.specs.Wire.{word_at, length_at, kind_of};
+ghost use Rattle.records.specs.Wire.{word_at, length_at};
 ghost use Rattle.records.specs.Cuts.{opened, open_of, cut_of, cut_at, place_after, finish_at};
 
 use board::fault::{Fault, Refusal};
@@ -52,7 +52,7 @@ impl<'a> Records<'a> {
         let Some(length) = length_at(file, place) else {
             return Err(Refusal::RecordCutShort.at(place));
         };
-        let Some(kind) = kind_of(word_at(file, place + 2)) else {
+        let Ok(kind) = Kind::try_from(word_at(file, place + 2)) else {
             return Err(Refusal::UnknownKind.at(place));
         };
         let end = place + 2 + length;
@@ -96,18 +96,4 @@ fn length_at(file: &[u8], at: usize) -> Option<usize>
         return None;
     }
     Some(length)
-}
-
-fn kind_of(number: u16) -> Option<Kind>
-    ensures { result ≡ kind_of number }
-{
-    match number {
-        1 => Some(Kind::Head),
-        2 => Some(Kind::Core),
-        3 => Some(Kind::Task),
-        4 => Some(Kind::Need),
-        5 => Some(Kind::Slots),
-        6 => Some(Kind::End),
-        _ => None,
-    }
 }

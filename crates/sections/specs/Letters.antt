@@ -1,5 +1,6 @@
 -- The letters that an order can have, and the head that names one.
-use Rattle.std.specs.Prelude.{ℕ, Bool, cond, ◌&&◌, List, Some, None, Ok, Err, Option, Result, ◌==◌, nat_le}
+use Rattle.std.specs.Prelude.{ℕ, cond, List, Some, None, Ok, Err, Option, Result, ◌==◌}
+use Rattle.board.specs.Meaning.{sizes_allowed}
 use Rattle.board.specs.declared.fault.Refusal.{Refusal}
 use Rattle.board.specs.declared.fault.Refusal.TheVariants.{WrongLength, ValueOutOfBounds}
 use Rattle.records.specs.declared.fields.HeadLine.{HeadLine}
@@ -20,13 +21,9 @@ letter_of Even = 101
 letter_of Weighted = 119
 letter_of ByNeed = 110
 
--- 1 to 64 tasks, 1 to 16 cores
-abbrev pub sizes_fit : HeadLine → Bool
-sizes_fit head = nat_le 1 head.tasks && (nat_le head.tasks 64 && (nat_le 1 head.cores && nat_le head.cores 16))
-
 abbrev pub head_lettered : HeadLine → Option Sharing → Result HeadLine Refusal
 head_lettered head None = Err ValueOutOfBounds
-head_lettered head (Some sharing) = cond (sizes_fit head) (Ok head) (Err ValueOutOfBounds)
+head_lettered head (Some sharing) = cond (sizes_allowed head.tasks head.cores) (Ok head) (Err ValueOutOfBounds)
 
 abbrev pub head_found : Option HeadLine → Result HeadLine Refusal
 head_found None = Err WrongLength

@@ -9,7 +9,7 @@ use Rattle.records.specs.declared.fields.PairLine.{PairLine}
 use Rattle.records.specs.Fields.{TaskSaid, said}
 use Rattle.records.specs.Cuts.{Cut}
 use Rattle.sections.specs.declared.state.Section.{Section}
-use Rattle.sections.specs.declared.state.Section.TheVariants.{Head, Cores, Tasks, Needs, Slots, Ended}
+use Rattle.sections.specs.declared.state.Section.TheVariants.{Head, Cores, Tasks, Needs, Slots}
 use Rattle.sections.specs.declared.state.Reader.{Reader}
 use Rattle.sections.specs.declared.state.Line.{Line}
 use Rattle.sections.specs.declared.state.Line.TheVariants as line
@@ -46,69 +46,25 @@ at_slots s = record { section = Slots; letter = s.letter; tasks = s.tasks; cores
 
 abbrev pub line_in : Section → Kind → Reader → ℕ → List ℕ → Result Said Refusal
 line_in Head kind.Head s seen body = saying (λ _. head) (head_told s body)
-line_in Head kind.Core s seen body = Err KindOutOfTurn
-line_in Head kind.Task s seen body = Err KindOutOfTurn
-line_in Head kind.Need s seen body = Err KindOutOfTurn
-line_in Head kind.Slots s seen body = Err KindOutOfTurn
-line_in Head kind.End s seen body = Err KindOutOfTurn
-line_in Cores kind.Head s seen body = Err KindOutOfTurn
 line_in Cores kind.Core s seen body = saying core (core_told s body)
-line_in Cores kind.Task s seen body = Err KindOutOfTurn
-line_in Cores kind.Need s seen body = Err KindOutOfTurn
-line_in Cores kind.Slots s seen body = Err KindOutOfTurn
-line_in Cores kind.End s seen body = Err KindOutOfTurn
-line_in Tasks kind.Head s seen body = Err KindOutOfTurn
-line_in Tasks kind.Core s seen body = Err KindOutOfTurn
 line_in Tasks kind.Task s seen body = saying task (task_told s body)
-line_in Tasks kind.Need s seen body = Err KindOutOfTurn
-line_in Tasks kind.Slots s seen body = Err KindOutOfTurn
-line_in Tasks kind.End s seen body = Err KindOutOfTurn
-line_in Needs kind.Head s seen body = Err KindOutOfTurn
-line_in Needs kind.Core s seen body = Err KindOutOfTurn
-line_in Needs kind.Task s seen body = Err KindOutOfTurn
 line_in Needs kind.Need s seen body = saying need (pair_told s body)
 line_in Needs kind.Slots s seen body = saying slots (pair_told (at_slots s) body)
 line_in Needs kind.End s seen body = saying (λ _. end) (end_told seen body)
-line_in Slots kind.Head s seen body = Err KindOutOfTurn
-line_in Slots kind.Core s seen body = Err KindOutOfTurn
-line_in Slots kind.Task s seen body = Err KindOutOfTurn
-line_in Slots kind.Need s seen body = Err KindOutOfTurn
 line_in Slots kind.Slots s seen body = saying slots (pair_told s body)
 line_in Slots kind.End s seen body = saying (λ _. end) (end_told seen body)
-line_in Ended k s seen body = Err KindOutOfTurn
+line_in _ _ s seen body = Err KindOutOfTurn
 
 abbrev pub left_in : Section → Kind → Reader → ℕ → List ℕ → Reader
 left_in Head kind.Head s seen body = head_left s body
-left_in Head kind.Core s seen body = s
-left_in Head kind.Task s seen body = s
-left_in Head kind.Need s seen body = s
-left_in Head kind.Slots s seen body = s
-left_in Head kind.End s seen body = s
-left_in Cores kind.Head s seen body = s
 left_in Cores kind.Core s seen body = core_left s body
-left_in Cores kind.Task s seen body = s
-left_in Cores kind.Need s seen body = s
-left_in Cores kind.Slots s seen body = s
-left_in Cores kind.End s seen body = s
-left_in Tasks kind.Head s seen body = s
-left_in Tasks kind.Core s seen body = s
 left_in Tasks kind.Task s seen body = task_left s body
-left_in Tasks kind.Need s seen body = s
-left_in Tasks kind.Slots s seen body = s
-left_in Tasks kind.End s seen body = s
-left_in Needs kind.Head s seen body = s
-left_in Needs kind.Core s seen body = s
-left_in Needs kind.Task s seen body = s
 left_in Needs kind.Need s seen body = pair_left s body
 left_in Needs kind.Slots s seen body = pair_left (at_slots s) body
 left_in Needs kind.End s seen body = end_left s seen body
-left_in Slots kind.Head s seen body = s
-left_in Slots kind.Core s seen body = s
-left_in Slots kind.Task s seen body = s
-left_in Slots kind.Need s seen body = s
 left_in Slots kind.Slots s seen body = pair_left s body
 left_in Slots kind.End s seen body = end_left s seen body
-left_in Ended k s seen body = s
+left_in _ _ s seen body = s
 
 -- what the record says after `seen` others, or why it is refused
 abbrev pub line_of : Reader → ℕ → Cut → Result Said Refusal

@@ -5,11 +5,10 @@ use Rattle.board.specs.declared.fault.Refusal.{Refusal}
 use Rattle.board.specs.declared.fault.Refusal.TheVariants.{WrongLength, NumberOutOfTurn, ValueOutOfBounds, SizesDiffer, WrongCount}
 use Rattle.records.specs.declared.fields.HeadLine.{HeadLine}
 use Rattle.records.specs.declared.fields.CoreLine.{CoreLine}
-use Rattle.records.specs.declared.fields.TaskLine.{TaskLine}
 use Rattle.records.specs.declared.fields.PairLine.{PairLine}
-use Rattle.records.specs.Fields.{core_in, TaskSaid, said, task_in, pair_in, count_in}
+use Rattle.records.specs.Fields.{core_in, TaskSaid, task_in, pair_in, count_in}
 use Rattle.sections.specs.declared.state.Section.{Section}
-use Rattle.sections.specs.declared.state.Section.TheVariants.{Head, Cores, Tasks, Needs, Slots, Ended}
+use Rattle.sections.specs.declared.state.Section.TheVariants.{Head, Cores, Tasks, Needs, Ended}
 use Rattle.sections.specs.declared.state.Pair.{Pair}
 use Rattle.sections.specs.declared.state.Reader.{Reader}
 use Rattle.sections.specs.Letters.{head_test}
@@ -19,12 +18,8 @@ abbrev pub start : ℕ → ℕ → Reader
 start tasks cores = record { section = Head; letter = 0; tasks = tasks; cores = cores; core = 0; task = 0; last = None }
 
 abbrev pub is_ended : Section → Bool
-is_ended Head = false
-is_ended Cores = false
-is_ended Tasks = false
-is_ended Needs = false
-is_ended Slots = false
 is_ended Ended = true
+is_ended _ = false
 
 -- a refused record changes nothing
 abbrev pub unless_refused : {A : Type 0} → Result A Refusal → Reader → (A → Reader) → Reader
@@ -77,10 +72,6 @@ task_fits s (Some line) = cond (line.task == s.task) (Ok line) (Err NumberOutOfT
 
 abbrev pub task_told : Reader → List ℕ → Result TaskSaid Refusal
 task_told s body = task_fits s (task_in body)
-
-abbrev pub task_told_of : Result TaskLine Refusal → Result TaskSaid Refusal
-task_told_of (Ok line) = Ok (said line)
-task_told_of (Err why) = Err why
 
 abbrev pub task_next : Reader → TaskSaid → Reader
 task_next s line = record { section = section_at (line.task + 1) s.tasks Needs s.section; letter = s.letter; tasks = s.tasks; cores = s.cores; core = s.core; task = line.task + 1; last = s.last }

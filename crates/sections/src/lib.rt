@@ -3,40 +3,30 @@
 
 ghost use Rattle.std.specs.Prelude.{◌≡◌};
 ghost use Rattle.records.specs.Cuts.{plain};
+ghost use Rattle.records.specs.Fields.{task_seen};
 ghost use Rattle.sections.specs.Letters.{head_test};
-ghost use Rattle.sections.specs.Turns.{start, head_told, core_told, task_told, task_told_of, pair_told, end_told, head_left, core_left, task_left, pair_left, end_left, follows, is_ended};
+ghost use Rattle.sections.specs.Turns.{start, head_told, core_told, task_told, pair_told, end_told, head_left, core_left, task_left, pair_left, end_left, is_ended};
 ghost use Rattle.sections.specs.Lines.{line_of, line_left, said_of};
 
 use board::fault::Refusal;
-use board::{MOST_CORES, MOST_SLOTS, MOST_TASKS};
+use board::{MOST_SLOTS, sizes_allowed};
 use records::Record;
-use records::fields::{
-    CoreLine, HeadLine, PairLine, TaskLine, core_line, head_line, pair_line, record_count,
-    task_line,
-};
+use records::fields::{CoreLine, HeadLine, PairLine, TaskLine, record_count};
 use records::kind::Kind;
 
 pub mod letter;
 pub mod state;
 
-use letter::sharing_of;
+use letter::Sharing;
 use state::{Line, Pair, Reader, Section};
 
 // The head's letter and sizes, if an order can have them.
 pub fn head_fields(body: &[u8]) -> Result<HeadLine, Refusal>
     ensures { result ≡ head_test body.now }
 {
-    let Some(head) = head_line(body) else {
-        return Err(Refusal::WrongLength);
-    };
-    let Some(_) = sharing_of(head.letter) else {
-        return Err(Refusal::ValueOutOfBounds);
-    };
-    if head.tasks < 1
-        || head.tasks as usize > MOST_TASKS
-        || head.cores < 1
-        || head.cores as usize > MOST_CORES
-    {
+    let head = HeadLine::try_from(body)?;
+    Sharing::try_from(head.letter)?;
+    if !sizes_allowed(head.tasks as usize, head.cores as usize) {
         return Err(Refusal::ValueOutOfBounds);
     }
     Ok(head)
@@ -61,10 +51,7 @@ impl Reader {
     pub fn ended(&self) -> bool
         ensures { result ≡ is_ended self.now.section }
     {
-        match self.section {
-            Section::Ended => true,
-            _ => false,
-        }
+        self.section == Section::Ended
     }
 
     // What the record says, if its kind may stand here and its numbers are in turn and in bounds; `seen` records stand before it.
@@ -112,9 +99,7 @@ impl Reader {
         ensures told { result ≡ core_told self.old body.now }
         ensures left { self.new ≡ core_left self.old body.now }
     {
-        let Some(line) = core_line(body) else {
-            return Err(Refusal::WrongLength);
-        };
+        let line = CoreLine::try_from(body)?;
         if line.core as usize != self.core {
             return Err(Refusal::NumberOutOfTurn);
         }
@@ -130,12 +115,10 @@ impl Reader {
 
     // The tasks come in the order of their numbers, and the needs after the last of them.
     fn task<'a>(&mut self, body: &'a [u8]) -> Result<TaskLine<'a>, Refusal>
-        ensures told { task_told_of result ≡ task_told self.old body.now }
+        ensures told { task_seen result ≡ task_told self.old body.now }
         ensures left { self.new ≡ task_left self.old body.now }
     {
-        let Some(line) = task_line(body) else {
-            return Err(Refusal::WrongLength);
-        };
+        let line = TaskLine::try_from(body)?;
         if line.task as usize != self.task {
             return Err(Refusal::NumberOutOfTurn);
         }
@@ -151,20 +134,18 @@ impl Reader {
         ensures told { result ≡ pair_told self.old body.now }
         ensures left { self.new ≡ pair_left self.old body.now }
     {
-        let Some(line) = pair_line(body) else {
-            return Err(Refusal::WrongLength);
-        };
+        let line = PairLine::try_from(body)?;
         let pair = Pair {
             task: line.task,
             core: line.core,
         };
         if line.task as usize >= self.tasks
             || line.core as usize >= self.cores
-            || !is_after(pair, self.last)
+            || self.last.is_some_and(|last| pair <= last)
         {
             return Err(Refusal::NumberOutOfTurn);
         }
-        if line.amount < 1 || line.amount > MOST_SLOTS {
+        if !(1..=MOST_SLOTS).contains(&line.amount) {
             return Err(Refusal::ValueOutOfBounds);
         }
         self.last = Some(pair);
@@ -175,24 +156,10 @@ impl Reader {
         ensures told { result ≡ end_told seen body.now }
         ensures left { self.new ≡ end_left self.old seen body.now }
     {
-        let Some(count) = record_count(body) else {
-            return Err(Refusal::WrongLength);
-        };
-        if count as usize != seen {
+        if record_count(body)? as usize != seen {
             return Err(Refusal::WrongCount);
         }
         self.section = Section::Ended;
         Ok(())
-    }
-}
-
-// Whether the pair stands after the last one.
-fn is_after(pair: Pair, last: Option<Pair>) -> bool
-    ensures { result ≡ follows pair last }
-{
-    match last {
-        Some(before) => before.task < pair.task
-            || before.task == pair.task && before.core < pair.core,
-        None => true,
     }
 }

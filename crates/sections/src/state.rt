@@ -2,7 +2,7 @@
 use records::fields::{CoreLine, PairLine, TaskLine};
 
 // What may come next: the head, a core, a task, a need, slots, or nothing.
-#[derive(Clone, Copy, Drop)]
+#[derive(Clone, Copy, PartialEq, Eq, Debug, Drop)]
 pub enum Section {
     Head,
     Cores,
@@ -12,7 +12,8 @@ pub enum Section {
     Ended,
 }
 
-#[derive(Clone, Copy, Drop)]
+// Pairs are ordered by task, then by core.
+#[derive(Clone, Copy, PartialEq, Eq, PartialOrd, Ord, Debug, Drop)]
 pub struct Pair {
     pub task: u8,
     pub core: u8,

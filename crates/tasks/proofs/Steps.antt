@@ -1,40 +1,38 @@
 -- How the rows of a table change when one entry is filled, and what a search through them has seen.
-use Rattle.std.proofs.Common.{◌≡◌, ℕ, zero, suc, ◌+◌, ◌<◌, ◌≤◌, true, false, ◌||◌, List, [], ◌∷◌, ◌++◌, map, length, get_or, take, drop, set, None, sym, refl, ap, ◌∙◌, ⊎_elim, arith}
+use Rattle.std.proofs.Common.{◌≡◌, ℕ, Bool, zero, suc, ◌+◌, ◌<◌, ◌≤◌, true, false, ◌||◌, List, [], ◌∷◌, ◌++◌, map, length, get_or, take, drop, set, Some, None, Ok, Err, Option, Result, subst, sym, refl, ap, ◌∙◌, ⊎_elim, arith, length-set}
 use borrow.Rule.Slice.PartMut.{put_mid}
+use Rattle.std.specs.List.{list_any}
+use Rattle.std.specs.Result.{MatchResult, IsErrAnd}
 use Rattle.std.specs.Str.{bytes_eq}
-use Rattle.std.proofs.lemmas.List.{at_drop_more, get_or-take, get_or-map, length-take-le, length-map, take_more_set, map_push, take-set, drop-set, drop-drop, take-append-drop, get_or_past}
+use Rattle.std.proofs.lemmas.List.Folds.{list_any-append}
+use Rattle.std.proofs.Math.Bool.{or-false}
+use Rattle.std.proofs.lemmas.List.{length-take-le, length-map, take_more_set, map_push, take-set, drop-set, drop-drop, take-append-drop, get_or_past}
 use Rattle.std.proofs.lemmas.Bool.Decides.{nat_tests, same_from_decides, Decides-like}
 use Rattle.std.proofs.lemmas.Bool.{cases_lt}
 use Rattle.std.proofs.lemmas.Slice.Eq.{bytes_eq-Decides}
+use Rattle.board.specs.declared.fault.Refusal.{Refusal}
 use Rattle.tasks.specs.declared.task.Task.{Task}
 use Rattle.tasks.specs.declared.entries.Entries.{Entries}
-use Rattle.tasks.specs.Rows.{Row, taken, name_of, row_of, rows_of, sound, good_weight, good_name, printable_name}
+use Rattle.tasks.specs.Names.{good_name, printable_name}
+use Rattle.tasks.specs.Rows.{Row, row, taken, row_of, rows_of, sound, good_weight}
 use Rattle.tasks.specs.declared.table.TaskTable.{TaskTable}
-use Rattle.tasks.specs.Table.{rows, no_row, name_in, weight_in, push_why}
+use Rattle.tasks.specs.Table.{rows, no_row, name_in, weight_in, row_seen, row_unless, unless_refused, push_why, push_after}
 
 pub length-rows : (es : Entries) (k : ℕ) → k ≤ length es.tasks → length (rows_of es k) ≡ k
 length-rows es k le = length-map (take k es.tasks) row_of ∙ length-take-le k es.tasks le
 
--- the row of a task is that of its entry
-pub row_at : (es : Entries) (k i : ℕ) (d : Task) (e : Row) → i < k → k ≤ length es.tasks → get_or (rows_of es k) i e ≡ row_of (get_or es.tasks i d)
-row_at es k i d e h le =
-    let l = length-take-le k es.tasks le in
-    get_or-map row_of (take k es.tasks) i d e (omega arith) ∙ ap row_of (get_or-take k es.tasks i d h)
-
-pub taken_step : (n : List ℕ) (es : Entries) (k i : ℕ) (d : Task) → i < k → k ≤ length es.tasks → taken n (drop i (rows_of es k)) ≡ (bytes_eq (name_of (get_or es.tasks i d)) n || taken n (drop (i + 1) (rows_of es k)))
-taken_step n es k i d h le =
-    let e = length-rows es k le in
-    at_drop_more (taken n) (rows_of es k) i (row_of d) (omega arith) ∙ ap (λ r. bytes_eq r.name n || taken n (drop (i + 1) (rows_of es k))) (row_at es k i d (row_of d) h le)
-
 pub rows_fill : (es fs : Entries) (k : ℕ) (t : Task) → k < length es.tasks → fs.tasks ≡ set es.tasks k t → rows_of fs (k + 1) ≡ rows_of es k ++ row_of t ∷ []
 rows_fill es fs k t h e = ap (λ ts. map row_of (take (k + 1) ts)) e ∙ ap (map row_of) (take_more_set es.tasks k t h) ∙ map_push row_of (take k es.tasks) t
+
+pub list_any-map : {A B : Type 0} (p : B → Bool) (f : A → B) (xs : List A) → list_any p (map f xs) ≡ list_any (λ x. p (f x)) xs
+list_any-map p f [] = refl
+list_any-map p f (x ∷ xs) = ap (λ b. p (f x) || b) (list_any-map p f xs)
 
 same-sym : (x y : List ℕ) → bytes_eq x y ≡ bytes_eq y x
 same-sym x y = same_from_decides _ _ (Decides-like _ sym sym (bytes_eq-Decides x y)) (bytes_eq-Decides y x)
 
 taken-push : (n : List ℕ) (rs : List Row) (r : Row) → taken n (rs ++ r ∷ []) ≡ (taken n rs || bytes_eq r.name n)
-taken-push n [] r = grind (arith, nat_tests)
-taken-push n (u ∷ rs) r = let e = taken-push n rs r in grind (arith, nat_tests)
+taken-push n rs r = list_any-append (λ row. bytes_eq row.name n) rs (r ∷ []) ∙ ap (λ b. taken n rs || b) (or-false (bytes_eq r.name n))
 
 -- a sound table stays sound with one more good row of a new name
 pub sound-push : (rs : List Row) (r : Row) → sound rs ≡ true → good_weight r.weight ≡ true → good_name r.name ≡ true → taken r.name rs ≡ false → sound (rs ++ r ∷ []) ≡ true
@@ -75,6 +73,37 @@ fresh rs task weight name e = record {
   named = grind (arith, nat_tests);
   alone = grind (arith, nat_tests);
 }
+
+-- what passes a change of its errors was there before
+pub passed : {T E D : Type 0} (r : Result T E) (s : Result T D) (Q : E → D → Type 0) (x : T) → MatchResult r (λ y. s ≡ Ok y) (λ e. IsErrAnd s (Q e)) → s ≡ Ok x → r ≡ Ok x
+passed (Ok y) s Q x h e = let f = sym h ∙ e in cc
+passed (Err why) s Q x h e = absurd (subst (λ t. IsErrAnd t (Q why)) e h)
+
+-- a task that is taken as the next one has the row that is added
+added : (why : Option Refusal) (new row : Row) → Ok new ≡ row_unless why row → (None ≡ why) × (new ≡ row)
+added None new row e = (refl, cc)
+added (Some why) new row e = let z : ◌≡◌ {A = ℕ} 0 1 = cc in absurd (omega arith)
+
+-- how a table stands once the next task's entry is filled
+pub record Grown (es fs : Entries) (k task weight : ℕ) (name : List ℕ) : Type 0 where
+  pub left : rows_of fs (k + 1) ≡ push_after (rows_of es k) task weight name
+  pub size : length fs.tasks ≡ 64
+  pub room : k + 1 ≤ 64
+  pub sound : sound (rows_of fs (k + 1)) ≡ true
+
+pub grown : (es fs : Entries) (k task weight : ℕ) (name : List ℕ) (next : Result Task Refusal) (t : Task) → length es.tasks ≡ 64 → k ≤ 64 → sound (rows_of es k) ≡ true → row_seen next ≡ row_unless (push_why (rows_of es k) task weight name) (row weight name) → next ≡ Ok t → fs.tasks ≡ set es.tasks k t → Grown es fs k task weight name
+grown es fs k task weight name next t long within good told took filled =
+    let add = added (push_why (rows_of es k) task weight name) (row_of t) (row weight name) (sym (ap row_seen took) ∙ told) in
+    let new = fresh (rows_of es k) task weight name add.0 in
+    let l = length-rows es k (omega arith) in
+    let room = new.room in
+    let e : rows_of fs (k + 1) ≡ rows_of es k ++ row weight name ∷ [] = rows_fill es fs k t (omega arith) filled ∙ ap (λ r. rows_of es k ++ r ∷ []) add.1 in
+    record {
+      left = e ∙ ap (λ o. unless_refused o (rows_of es k) (row weight name)) add.0;
+      size = ap length filled ∙ length-set es.tasks k t ∙ long;
+      room = omega arith;
+      sound = ap sound e ∙ sound-push (rows_of es k) (row weight name) good new.weighed new.named new.alone;
+    }
 
 -- each name of a sound table can be shown, and so can the name of a task that it does not have
 pub sound-name : (rs : List Row) (i : ℕ) → sound rs ≡ true → (length (name_in rs i) ≤ 12) × (printable_name (name_in rs i) ≡ true)

@@ -1,2 +1,4 @@
+pub mod Names
+pub mod NameReads
 pub mod Rows
 pub mod Table

@@ -1,6 +1,9 @@
 -- The rows of a task table, and what makes them sound.
-use Rattle.std.specs.Prelude.{ℕ, Bool, true, false, not, ◌&&◌, ◌||◌, List, [], ◌∷◌, map, length, take, nat_le}
+use Rattle.std.specs.Prelude.{ℕ, Bool, true, not, ◌&&◌, List, [], ◌∷◌, map, take, nat_le}
+use Rattle.std.specs.List.{list_any}
 use Rattle.std.specs.Str.{bytes_eq}
+use Rattle.tasks.specs.Names.{good_name}
+use Rattle.tasks.specs.NameReads.{name_of}
 use Rattle.tasks.specs.declared.task.Task.{Task}
 use Rattle.tasks.specs.declared.entries.Entries.{Entries}
 
@@ -11,11 +14,8 @@ pub record Row : Type 0 where
 abbrev pub row : ℕ → List ℕ → Row
 row weight name = record { weight = weight; name = name }
 
-abbrev pub name_of : Task → List ℕ
-name_of task = take task.length task.name
-
 abbrev pub row_of : Task → Row
-row_of task = row task.weight (name_of task)
+row_of task = row task.weight (name_of task.name)
 
 -- the first entries, as rows
 abbrev pub rows_of : Entries → ℕ → List Row
@@ -23,22 +23,10 @@ rows_of entries count = map row_of (take count entries.tasks)
 
 -- some row has the name
 abbrev pub taken : List ℕ → List Row → Bool
-taken name [] = false
-taken name (first ∷ rest) = bytes_eq first.name name || taken name rest
-
--- a character that shows: from ! to ~
-abbrev pub printable : ℕ → Bool
-printable byte = nat_le 33 byte && nat_le byte 126
-
-abbrev pub printable_name : List ℕ → Bool
-printable_name [] = true
-printable_name (byte ∷ bytes) = printable byte && printable_name bytes
+taken name rows = list_any (λ row. bytes_eq row.name name) rows
 
 abbrev pub good_weight : ℕ → Bool
 good_weight weight = nat_le 1 weight && nat_le weight 100
-
-abbrev pub good_name : List ℕ → Bool
-good_name name = nat_le 1 (length name) && (nat_le (length name) 12 && printable_name name)
 
 -- each weight and name is as an order may have it, and no two rows share a name
 abbrev pub sound : List Row → Bool

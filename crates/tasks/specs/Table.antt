@@ -5,8 +5,10 @@ use Rattle.board.specs.declared.fault.Refusal.TheVariants.{NumberOutOfTurn, Valu
 use Rattle.board.specs.declared.fault.Fault.{Fault}
 use Rattle.board.specs.Refusals.{fault_at}
 use Rattle.board.specs.Meaning.{most_tasks}
+use Rattle.tasks.specs.declared.task.Task.{Task}
 use Rattle.tasks.specs.declared.table.TaskTable.{TaskTable}
-use Rattle.tasks.specs.Rows.{Row, row, rows_of, taken, good_weight, good_name}
+use Rattle.tasks.specs.Rows.{Row, row, row_of, rows_of, taken, good_weight}
+use Rattle.tasks.specs.Names.{good_name}
 
 abbrev pub rows : TaskTable → List Row
 rows table = rows_of table.entries table.count
@@ -30,6 +32,15 @@ push_why rs task weight name =
     (Some BadName))
     (Some ValueOutOfBounds))
     (Some NumberOutOfTurn)) (Some NumberOutOfTurn)
+
+-- the row itself, if it can be added
+abbrev pub row_unless : Option Refusal → Row → Result Row Refusal
+row_unless None new = Ok new
+row_unless (Some why) new = Err why
+
+abbrev pub row_seen : Result Task Refusal → Result Row Refusal
+row_seen (Ok task) = Ok (row_of task)
+row_seen (Err why) = Err why
 
 abbrev pub answered : Option Refusal → Result (Unit {0}) Fault
 answered None = Ok tt

@@ -1,6 +1,7 @@
 // What a task table answers.
-ghost use Rattle.std.specs.Prelude.{◌≡◌, ℕ, ◌≤◌, true, length, slice_index_or};
-ghost use Rattle.tasks.specs.Rows.{name_of, printable_name};
+ghost use Rattle.std.specs.Prelude.{◌≡◌, ℕ, ◌≤◌, true, map, length, slice_index_or};
+ghost use Rattle.tasks.specs.Names.{printable_name};
+ghost use Rattle.tasks.specs.Rows.{row_of};
 ghost use Rattle.tasks.specs.Table.{rows, name_in, weight_in};
 
 use crate::table::TaskTable;
@@ -20,20 +21,20 @@ impl TaskTable {
         ensures short { length result.now ≤ 12 }
         ensures shown { printable_name result.now ≡ true }
     {
-        if task >= self.count {
-            return &[];
+        match self.tasks().get(task) {
+            Some(task) => task.name.as_bytes(),
+            None => &[],
         }
-        name_of(&self.entries.tasks[task])
     }
 
     // 1 for a task that the table does not have.
     pub fn weight(&self, task: usize) -> u8
         ensures { result ≡ weight_in (rows self.now) task }
     {
-        if task >= self.count {
-            return 1;
+        match self.tasks().get(task) {
+            Some(task) => task.weight,
+            None => 1,
         }
-        self.entries.tasks[task].weight
     }
 
     // The weights of all tasks that an order can have.
@@ -43,15 +44,16 @@ impl TaskTable {
         ensures fit { (task : ℕ) → (1 ≤ slice_index_or result task 1) × (slice_index_or result task 1 ≤ 100) }
     {
         let mut weights = [1; MOST_TASKS];
-        for task in 0..MOST_TASKS {
-            weights[task] = self.weight(task);
+        for (task, weight) in weights.iter_mut().enumerate() {
+            *weight = self.weight(task);
         }
         weights
     }
-}
 
-pub(crate) fn name_of(task: &Task) -> &[u8]
-    ensures { result.now ≡ name_of task.now }
-{
-    &task.name[0..task.length as usize]
+    // The entries in use.
+    pub(crate) fn tasks(&self) -> &[Task]
+        ensures { map row_of result.now ≡ rows self.now }
+    {
+        &self.entries.tasks[..self.count]
+    }
 }

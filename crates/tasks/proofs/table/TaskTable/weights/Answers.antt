@@ -1,16 +1,12 @@
-use Rattle.std.proofs.Common.{◌≡◌, ℕ, ◌≤◌, get_or, sym, subst, arith}
-use Rattle.tasks.specs.Rows.{rows_of}
-use Rattle.tasks.specs.Table.{weight_in}
-use Rattle.tasks.proofs.Steps.{length-rows, weights-all, sound-weight}
+use Rattle.std.proofs.Common.{◌≤◌, sym, subst, arith}
+use Rattle.tasks.specs.Table.{rows}
+use Rattle.tasks.proofs.Steps.{rows_few, weights-all, sound-weight}
 use Rattle.tasks.proofs.table.TaskTable.weights.Goals as goal
 
-pub returns : goal.returns
-returns c =
-    let rs = rows_of c.args.self.now.entries c.args.self.now.count in
-    let l = length-rows c.args.self.now.entries c.args.self.now.count (omega arith) in
-    let each : (t : ℕ) → get_or c.loop-task.weights t 1 ≡ weight_in rs t = weights-all c.loop-task.weights rs c.loop-task.invariant.0 (omega arith) (λ t h. c.loop-task.invariant.1 t (omega arith)) in
-    record {
-      all = c.loop-task.invariant.0;
-      each = each;
-      fit = λ t. subst (λ w. (1 ≤ w) × (w ≤ 100)) (sym (each t)) (sound-weight rs t c.args.self.now.sound);
-    }
+pub returns-clause-each : goal.returns-clause-each
+returns-clause-each c =
+    weights-all c.loop-task.weight-items (rows c.args.self.now) (omega arith) (rows_few c.args.self.now) (λ t h. c.loop-task.invariant t (omega arith))
+
+pub returns-clause-fit : goal.returns-clause-fit
+returns-clause-fit c =
+    λ t. subst (λ w. (1 ≤ w) × (w ≤ 100)) (sym (returns-clause-each c t)) (sound-weight (rows c.args.self.now) t c.args.self.now.sound)

@@ -2,9 +2,16 @@
 #![tactic(auto)]
 
 ghost use Rattle.std.specs.Prelude.{◌≡◌, MatchOption};
-ghost use Rattle.calls.specs.Turns.{in_turn, turned, Legal, FirstOutOfTurn};
+ghost use Rattle.calls.specs.Turns.{in_turn, phase_after, Legal, FirstOutOfTurn};
 
-#[derive(Clone, Copy)]
+// Whether a plan is working, and takes changes, or released.
+#[derive(Clone, Copy, PartialEq, Eq, Debug)]
+pub enum Phase {
+    Working,
+    Released,
+}
+
+#[derive(Clone, Copy, PartialEq, Eq, Debug)]
 pub enum Call {
     SetNeed { task: usize, core: usize, need: u16 },
     SetCapacity { core: usize, capacity: u16 },
@@ -13,24 +20,24 @@ pub enum Call {
 }
 
 impl Call {
-    // Whether a plan takes the call, where it is working, and where it is not.
-    pub fn in_turn(self, working: bool) -> bool
-        ensures { result ≡ in_turn working self }
+    // Whether a plan in the phase takes the call.
+    pub fn in_turn(self, phase: Phase) -> bool
+        ensures { result ≡ in_turn phase self }
     {
         match self {
-            Call::Reopen => !working,
-            _ => working,
+            Call::Reopen => phase == Phase::Released,
+            _ => phase == Phase::Working,
         }
     }
 
-    // Whether the plan is working after the call.
-    pub fn leaves_working(self, working: bool) -> bool
-        ensures { result ≡ turned working self }
+    // The phase of the plan after the call.
+    pub fn phase_after(self, phase: Phase) -> Phase
+        ensures { result ≡ phase_after phase self }
     {
         match self {
-            Call::Release => false,
-            Call::Reopen => true,
-            _ => working,
+            Call::Release => Phase::Released,
+            Call::Reopen => Phase::Working,
+            _ => phase,
         }
     }
 }
@@ -39,12 +46,12 @@ impl Call {
 pub fn first_out_of_turn(calls: &[Call]) -> Option<usize>
     ensures { MatchOption result (Legal calls.now) (FirstOutOfTurn calls.now) }
 {
-    let mut working = true;
+    let mut phase = Phase::Working;
     for (place, call) in calls.iter().enumerate() {
-        if !call.in_turn(working) {
+        if !call.in_turn(phase) {
             return Some(place);
         }
-        working = call.leaves_working(working);
+        phase = call.phase_after(phase);
     }
     None
 }

@@ -49,35 +49,26 @@ pub fn set_capacity<B: Board, R: Rule>(
     Ok(())
 }
 
-// Whether a plan takes the need.
+// Whether a plan takes the need. Slots above it are no reason to refuse.
 fn test_need<B: Board>(board: &B, task: usize, core: usize, need: u16) -> Result<(), Fault>
     requires { Good B.build board.now }
     ensures { result ≡ answered (plan_need (B.build.meaning board.now) task core need) }
 {
-    if task >= board.tasks() || core >= board.cores() {
-        return Err(Refusal::NoSuchTaskOrCore.at(0));
+    match board.test_need(task, core, need) {
+        Err(fault) if fault.refusal == Refusal::SlotsOverNeed => Ok(()),
+        told => told,
     }
-    if need > MOST_SLOTS {
-        return Err(Refusal::AmountTooLarge.at(0));
-    }
-    if need > 0 && board.need(task, core) == 0 && board.pair_count() >= board.greatest_pairs() {
-        return Err(Refusal::NoPairLeft.at(0));
-    }
-    Ok(())
 }
 
-// Whether a plan takes the capacity.
+// Whether a plan takes the capacity. Slots above it are no reason to refuse.
 fn test_capacity<B: Board>(board: &B, core: usize, capacity: u16) -> Result<(), Fault>
     requires { Good B.build board.now }
     ensures { result ≡ answered (plan_capacity (B.build.meaning board.now) core capacity) }
 {
-    if core >= board.cores() {
-        return Err(Refusal::NoSuchTaskOrCore.at(0));
+    match board.test_capacity(core, capacity) {
+        Err(fault) if fault.refusal == Refusal::CoreOverCapacity => Ok(()),
+        told => told,
     }
-    if capacity > board.greatest_capacity(core) {
-        return Err(Refusal::AmountTooLarge.at(0));
-    }
-    Ok(())
 }
 
 // Takes away the slots of the task at the core that are more than the need to come.

@@ -1,17 +1,18 @@
 // A run: a list of calls played on a new plan, with a note of each answer and of the totals at that point.
 ghost use Rattle.std.specs.Prelude.{◌≡◌, ◌≤◌, true, length};
 ghost use Rattle.board.specs.Boards.{Good, Went};
-ghost use Rattle.calls.specs.Turns.{in_turn, turned, Legal};
+ghost use Rattle.calls.specs.Turns.{in_turn, phase_after, Legal};
 ghost use Rattle.changes.specs.Standing.{Standing, Replanned};
 ghost use Rattle.plan.specs.Plans.{Totals};
 ghost use Rattle.plan.specs.Runs.{Ran, NotesPast, RunTold, outcome_of};
 ghost use Rattle.plan.specs.Attempts.{Attempted};
-ghost use Rattle.plan.specs.States.{lent_of, rule_of, is_working};
+ghost use Rattle.plan.specs.declared.runs.NotTaken.TheVariants.{Refused};
+ghost use Rattle.plan.specs.States.{lent_of, rule_of, phase_of};
 
 use crate::states::{ReleasedPlan, WorkingPlan};
 use board::fault::Fault;
 use board::{Board, MOST_TASKS};
-pub use calls::{Call, first_out_of_turn};
+pub use calls::{Call, Phase, first_out_of_turn};
 use rules::Rule;
 
 // What a call was told, and the totals of the plan that it left.
@@ -30,13 +31,20 @@ pub enum RunRefusal {
     NotesTooFew,
 }
 
-// What a call on a plan in either state is told.
+// Why a call on a plan in either state is not taken.
 #[derive(Clone, Copy)]
-pub enum Answer {
-    Taken,
+pub enum NotTaken {
     Refused(Fault),
     // The plan's state does not take the call, and nothing was done.
     OutOfTurn,
+}
+
+impl From<Fault> for NotTaken {
+    ghost from_gives = { λ fault told. told ≡ Refused fault };
+
+    fn from(fault: Fault) -> NotTaken {
+        NotTaken::Refused(fault)
+    }
 }
 
 // A plan in either state.
@@ -46,12 +54,12 @@ pub enum State<'a, B, R> {
 }
 
 impl<'a, B: Board, R: Rule> State<'a, B, R> {
-    pub fn is_working(&self) -> bool
-        ensures { result ≡ is_working self.now }
+    pub fn phase(&self) -> Phase
+        ensures { result ≡ phase_of self.now }
     {
         match self {
-            State::Working(_) => true,
-            State::Released(_) => false,
+            State::Working(_) => Phase::Working,
+            State::Released(_) => Phase::Released,
         }
     }
 
@@ -80,20 +88,17 @@ impl<'a, B: Board, R: Rule> State<'a, B, R> {
 pub fn attempt<'a, B: Board, R: Rule>(
     state: State<'a, B, R>,
     call: Call,
-) -> (State<'a, B, R>, Answer)
+) -> (State<'a, B, R>, Result<(), NotTaken>)
     requires { Standing B.build (R.order (rule_of state)) (lent_of state).now }
     ensures lent { (lent_of result.0).ghost_name ≡ (lent_of state.entry).ghost_name }
     ensures rule { rule_of result.0 ≡ rule_of state.entry }
-    ensures attempted { Attempted B.build (R.order (rule_of state.entry)) (lent_of state.entry).now (lent_of result.0).now (is_working state.entry) (is_working result.0) call result.1 }
+    ensures attempted { Attempted B.build (R.order (rule_of state.entry)) (lent_of state.entry).now (lent_of result.0).now (phase_of state.entry) (phase_of result.0) call result.1 }
 {
-    if !call.in_turn(state.is_working()) {
-        return (state, Answer::OutOfTurn);
+    if !call.in_turn(state.phase()) {
+        return (state, Err(NotTaken::OutOfTurn));
     }
     let (next, told) = step(state, call);
-    match told {
-        Ok(()) => (next, Answer::Taken),
-        Err(fault) => (next, Answer::Refused(fault)),
-    }
+    (next, told.map_err(NotTaken::from))
 }
 
 // Makes a call that is in turn.
@@ -102,10 +107,10 @@ fn step<'a, B: Board, R: Rule>(
     call: Call,
 ) -> (State<'a, B, R>, Result<(), Fault>)
     requires standing { Standing B.build (R.order (rule_of state)) (lent_of state).now }
-    requires turn { in_turn (is_working state) call ≡ true }
+    requires turn { in_turn (phase_of state) call ≡ true }
     ensures lent { (lent_of result.0).ghost_name ≡ (lent_of state.entry).ghost_name }
     ensures rule { rule_of result.0 ≡ rule_of state.entry }
-    ensures turned { is_working result.0 ≡ turned (is_working state.entry) call }
+    ensures phase { phase_of result.0 ≡ phase_after (phase_of state.entry) call }
     ensures replanned { Replanned B.build (R.order (rule_of state.entry)) (lent_of state.entry).now (lent_of result.0).now (outcome_of (B.build.meaning (lent_of state.entry).now) call) result.1 }
 {
     match state {

@@ -1,6 +1,7 @@
 -- What a line of a script asks for: `need TASK CORE NEED`, `capacity CORE CAPACITY`, `release`, `reopen` or `judge`,
 -- with one blank between words and none elsewhere.
-use Rattle.std.specs.Prelude.{ℕ, cond, List, [], ◌∷◌, Some, None, codes, Option, ◌==◌}
+use Rattle.std.specs.Prelude.{ℕ, cond, List, Some, None, codes, Option, ◌==◌}
+use Rattle.std.specs.List.{before_first, after_first}
 use Rattle.std.specs.Str.{bytes_eq}
 use Rattle.calls.specs.declared.Call.TheVariants.{SetNeed, SetCapacity, Release, Reopen}
 use Rattle.script.specs.declared.Request.{Request}
@@ -9,12 +10,10 @@ use Rattle.script.specs.Numbers.{number_of}
 
 -- what stands before the first blank, and what stands after it
 abbrev pub word_of : List ℕ → List ℕ
-word_of [] = []
-word_of (byte ∷ bytes) = cond (byte == 32) [] (byte ∷ word_of bytes)
+word_of text = before_first (λ byte. byte == 32) text
 
 abbrev pub rest_of : List ℕ → List ℕ
-rest_of [] = []
-rest_of (byte ∷ bytes) = cond (byte == 32) bytes (rest_of bytes)
+rest_of text = after_first (λ byte. byte == 32) text
 
 abbrev pub need_by : Option ℕ → Option ℕ → Option ℕ → Option Request
 need_by None core need = None

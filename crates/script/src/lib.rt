@@ -1,8 +1,7 @@
 // The lines of a script of calls on a plan, and what each asks for.
 #![tactic(auto)]
 
-ghost use Rattle.std.specs.Prelude.{◌≡◌, Bool, length, Some};
-ghost use Rattle.std.specs.Str.{bytes_eq};
+ghost use Rattle.std.specs.Prelude.{◌≡◌, ◌==◌, Some, position};
 ghost use Rattle.script.specs.Lines.{request_of, need_asked, capacity_asked, word_of, rest_of};
 ghost use Rattle.script.specs.Numbers.{number_of, with_digit};
 
@@ -19,19 +18,19 @@ pub fn request_of(line: &[u8]) -> Option<Request>
     ensures { result ≡ request_of line.now }
 {
     let (word, rest) = cut(line);
-    if says(word, b"need") {
+    if word == b"need".as_slice() {
         return need_asked(rest);
     }
-    if says(word, b"capacity") {
+    if word == b"capacity".as_slice() {
         return capacity_asked(rest);
     }
-    if says(line, b"release") {
+    if line == b"release".as_slice() {
         return Some(Request::Play(Call::Release));
     }
-    if says(line, b"reopen") {
+    if line == b"reopen".as_slice() {
         return Some(Request::Play(Call::Reopen));
     }
-    if says(line, b"judge") {
+    if line == b"judge".as_slice() {
         return Some(Request::Judge);
     }
     None
@@ -66,10 +65,11 @@ fn capacity_asked(text: &[u8]) -> Option<Request>
     }))
 }
 
-fn says(text: &[u8], word: &[u8]) -> bool
-    ensures { result ≡ bytes_eq text.now word.now }
+// The place of the first blank.
+fn first_blank(text: &[u8]) -> Option<usize>
+    ensures { result ≡ position (λ byte. byte == 32) text.now }
 {
-    text == word
+    text.iter().position(|byte| *byte == b' ')
 }
 
 // What stands before the first blank, and what stands after it.
@@ -77,12 +77,10 @@ fn cut(text: &[u8]) -> (&[u8], &[u8])
     ensures word { result.0.now ≡ word_of text.now }
     ensures rest { result.1.now ≡ rest_of text.now }
 {
-    for (at, byte) in text.iter().enumerate() {
-        if *byte == b' ' {
-            return (&text[..at], &text[at + 1..]);
-        }
+    match first_blank(text) {
+        Some(at) => (&text[..at], &text[at + 1..]),
+        None => (text, &[]),
     }
-    (text, &[])
 }
 
 // The number that decimal digits say, up to 65,535.
@@ -103,12 +101,9 @@ fn number_of(word: &[u8]) -> Option<u16>
 fn with_digit(number: u16, digit: u8) -> Option<u16>
     ensures { result ≡ with_digit (Some number) digit }
 {
-    if digit < b'0' || digit > b'9' {
+    if !digit.is_ascii_digit() {
         return None;
     }
-    let longer = number as u32 * 10 + (digit - b'0') as u32;
-    if longer > 65535 {
-        return None;
-    }
-    Some(longer as u16)
+    let tens = number.checked_mul(10)?;
+    tens.checked_add((digit - b'0') as u16)
 }

@@ -4,15 +4,6 @@ use Rattle.board.proofs.Going.{went-nowhere, went_on}
 use Rattle.changes.proofs.Fitting.{fitting-start, fitting-more, fitting-end, order-held}
 use Rattle.changes.proofs.fit_capacity.Goals as goal
 
-pub loop-task-init : goal.loop-task-init
-loop-task-init g c =
-    let b = g.B.Board in
-    let m : Meaning = b.build.meaning c.args.board.now in (
-      went-nowhere b.build c.args.board.now c.requires.good,
-      refl,
-      fitting-start m c.args.core c.args.capacity c.saturating_sub-over.result (c.saturating_sub-over.ensures ∙ ap (λ z. z - c.args.capacity) c.given.ensures),
-    )
-
 pub loop-task-preserved : goal.loop-task-preserved
 loop-task-preserved g c =
     let b = g.B.Board in
@@ -30,13 +21,8 @@ loop-task-preserved g c =
           so tn cm c.held-held.ensures left c.set_held.ensures.left c.loop-task.invariant.2,
     )
 
-pub returns : goal.returns
-returns g c =
-    let b = g.B.Board in
-    let m : Meaning = b.build.meaning c.loop-task.board in
-    let tasks : m.tasks ≡ (b.build.meaning c.args.board.now).tasks = ap (λ (z : Meaning). z.tasks) c.loop-task.invariant.1 in
-    record {
-      went = c.loop-task.invariant.0;
-      order = c.loop-task.invariant.1;
-      fits = fitting-end m c.args.core c.args.capacity c.loop-task.over c.loop-task.task (omega (arith, tasks, c.tasks-task-end.ensures, c.loop-task-test.false)) c.loop-task.invariant.2;
-    }
+pub returns-clause-fits : goal.returns-clause-fits
+returns-clause-fits g c =
+    let m : Meaning = g.B.Board.build.meaning c.loop-task.board in
+    let tasks : m.tasks ≡ (g.B.Board.build.meaning c.args.board.now).tasks = ap (λ (z : Meaning). z.tasks) c.loop-task.invariant.1 in
+    fitting-end m c.args.core c.args.capacity c.loop-task.over c.loop-task.task (omega (arith, tasks, c.tasks-task-end.ensures, c.loop-task-test.false)) c.loop-task.invariant.2

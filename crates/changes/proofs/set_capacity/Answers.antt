@@ -5,24 +5,6 @@ use Rattle.changes.proofs.Taking.{capacity-taken}
 use Rattle.changes.proofs.Replanning.{capacity-same, capacity-moves, plan-stays, plan-rests, plan-moves}
 use Rattle.changes.proofs.set_capacity.Goals as goal
 
-pub returns-in_err-test_capacity : goal.returns-in_err-test_capacity
-returns-in_err-test_capacity g c =
-    let b = g.B.Board in
-    let a = c.args.board.now in
-    plan-stays b.build (g.R.Rule.order c.args.rule) a (plan_capacity (b.build.meaning a) c.args.core c.args.capacity) c.from_residual.result _ c.requires
-    c.in_err-test_capacity.ensures c.from_residual.ensures.1
-
-pub returns-then-capacity : goal.returns-then-capacity
-returns-then-capacity g c =
-    let b = g.B.Board in
-    let a = c.args.board.now in
-    let m : Meaning = b.build.meaning a in
-    let t = capacity-taken m c.args.core c.args.capacity c.in_ok-test_capacity.ensures in
-    let changed = c.change_capacity.ensures in
-    plan-moves b.build (g.R.Rule.order c.args.rule) a c.change_capacity.new.board (plan_capacity m c.args.core c.args.capacity) (with_capacity m c.args.core c.args.capacity)
-    t.comes (λ same. c.if-capacity.true (c.capacity.ensures ∙ sym (capacity-moves m c.args.core c.args.capacity same))) changed.order
-    (record { good = changed.went.good; fairest = changed.fairest }) changed.went.keeps
-
 pub returns-else-capacity : goal.returns-else-capacity
 returns-else-capacity g c =
     let b = g.B.Board in

@@ -3,8 +3,10 @@ use Rattle.std.proofs.lemmas.List.Sums.{fold_more}
 use Rattle.board.specs.Boards.{Went}
 use Rattle.levelling.specs.Levelled.{FairestOn}
 use Rattle.calls.specs.declared.Call.TheVariants.{SetNeed}
+use Rattle.calls.specs.declared.Phase.{Phase}
+use Rattle.calls.specs.declared.Phase.TheVariants.{Working}
 use Rattle.changes.specs.Standing.{Standing}
-use Rattle.calls.specs.Turns.{call_at, turned}
+use Rattle.calls.specs.Turns.{call_at, phase_after}
 use Rattle.plan.specs.Runs.{RanTo, NotesPast}
 use Rattle.plan.specs.States.{lent_of}
 use Rattle.plan.proofs.Playing.{ran-none, ran-more, ran-since, notes-more}
@@ -41,7 +43,7 @@ loop-place-preserved g c =
       subst P (sym step.rule) step.replanned.standing,
       b.build.keeping.onward _ _ _ inv.1 step.replanned.keeps,
       step.rule ∙ inv.2,
-      step.turned ∙ (ap (λ (z : Bool). turned z (call_at calls place)) inv.3 ∙ sym (fold_more turned true calls place (SetNeed 0 0 0) c.loop-place-test.true)),
+      step.phase ∙ (ap (λ (z : Phase). phase_after z (call_at calls place)) inv.3 ∙ sym (fold_more phase_after Working calls place (SetNeed 0 0 0) c.loop-place-test.true)),
       step.lent ∙ inv.4,
       ran-more (g.R.Rule.order c.make.result.rule) (b.build.meaning first) calls place c.loop-place.notes (b.build.meaning (lent_of c.loop-place.state).now) (b.build.meaning board) _
           c.loop-place-test.true room inv.5 step.replanned.told step.replanned.order step.replanned.standing.good.sound (subst Q inv.2 step.replanned.standing.fairest) c.totals-totals.ensures,
@@ -51,8 +53,8 @@ loop-place-preserved g c =
 moved : {X : Type 0} (P : X → Type 0) (v w : X) → v ≡ w → P w → P v
 moved P v w e h = subst P (sym e) h
 
-pub returns : goal.returns
-returns g c =
+pub returns-clause-ran : goal.returns-clause-ran
+returns-clause-ran g c =
     let b = g.B.Board in
     let calls = c.args.calls.now in
     let place = c.loop-place.place in
@@ -60,15 +62,8 @@ returns g c =
     let made = c.make.ensures.planned in
     let last = (lent_of c.loop-place.state).now in
     let m = b.build.meaning c.args.board.now in
-    let names : c.finish-back.result.ghost_name ≡ c.make.result.board.ghost_name = c.finish-back.ensures.lent ∙ inv.4 in
     let all : place ≡ length calls = omega (arith, c.loop-place-test.false, c.loop-place.auto.place-end) in
     let P : g.row.R.Denot → Type 0 = λ z. RanTo (g.R.Rule.order z) m calls place c.loop-place.notes (b.build.meaning last) in
     let ran = subst P c.make.ensures.rule (ran-since (g.R.Rule.order c.make.result.rule) m (b.build.meaning c.make.result.board.now) calls place c.loop-place.notes (b.build.meaning last) made.order inv.5) in
     let Q : ℕ → Type 0 = λ z. RanTo (g.R.Rule.order c.args.rule) m calls z c.loop-place.notes (b.build.meaning last) in
-    let R : ℕ → Type 0 = λ z. NotesPast z c.args.notes.now c.loop-place.notes in
-    record {
-      went = moved (Went b.build c.args.board.now) _ last (search rules)
-          (record { good = inv.0.good; keeps = b.build.keeping.onward _ _ _ made.keeps inv.1 });
-      ran = moved (λ x. RanTo (g.R.Rule.order c.args.rule) m calls (length calls) c.loop-place.notes (b.build.meaning x)) _ last (search rules) (subst Q all ran);
-      rest = subst R all inv.6;
-    }
+    moved (λ x. RanTo (g.R.Rule.order c.args.rule) m calls (length calls) c.loop-place.notes (b.build.meaning x)) _ last (search rules) (subst Q all ran)

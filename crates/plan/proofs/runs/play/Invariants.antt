@@ -1,8 +1,8 @@
 use Rattle.std.proofs.Common.{◌≡◌}
 use Rattle.changes.specs.Standing.{Standing}
-use Rattle.calls.specs.Turns.{working_at}
+use Rattle.calls.specs.Turns.{phase_at}
 use Rattle.plan.specs.Runs.{RanTo, NotesPast}
-use Rattle.plan.specs.States.{lent_of, rule_of, is_working}
+use Rattle.plan.specs.States.{lent_of, rule_of, phase_of}
 use Rattle.plan.proofs.runs.play.Given as goal
 
 -- the lender is told by the names: each state holds the board that the first one held
@@ -14,7 +14,7 @@ invariant-loop-place g l =
     Standing b.build (g.R.Rule.order (rule_of l.state)) board
     × b.build.kept first board
     × (rule_of l.state ≡ rule_of l.initial.state)
-    × (is_working l.state ≡ working_at l.calls l.place)
+    × (phase_of l.state ≡ phase_at l.calls l.place)
     × ((lent_of l.state).ghost_name ≡ (lent_of l.initial.state).ghost_name)
     × RanTo (g.R.Rule.order (rule_of l.initial.state)) (b.build.meaning first) l.calls l.place l.notes (b.build.meaning board)
     × NotesPast l.place l.initial.notes l.notes

@@ -4,4 +4,4 @@ use Rattle.plan.proofs.states.totals_on.Given as goal
 
 abbrev pub invariant-loop-task : goal.invariant-loop-task
 invariant-loop-task g l =
-    (length l.totals ≡ 64) × ((k : ℕ) → k < l.task → get_or l.totals k 0 ≡ total_of (g.B.Board.build.meaning l.board) k)
+    (length l.total-items ≡ 64) × ((k : ℕ) → k < l.task → get_or l.total-items k 0 ≡ total_of (g.B.Board.build.meaning l.board) k)

@@ -12,6 +12,7 @@ pub struct Entry {
 }
 
 impl Entry {
+    // Whether it is the entry of the pair.
     pub(crate) fn is_for(self, task: usize, core: usize) -> bool
         ensures { result ≡ is_for self task core }
     {

@@ -12,10 +12,7 @@ ghost use Rattle.board.specs.Meaning.{SameOrder};
 use board::Board;
 use levelling::level;
 use rules::Rule;
-use table_board::TableBoard;
-
-// The numbers that a table of 64 tasks and 16 cores takes.
-const TABLE_NUMBERS: usize = 2064;
+use table_board::{MOST_NUMBERS, TableBoard};
 
 // Gives each core of the clear board `to` the capacity that it has on `from`.
 fn copy_capacities<A: Board, B: Board>(from: &A, to: &mut B)
@@ -145,7 +142,7 @@ pub fn level_on_table<B: Board, R: Rule>(board: &mut B, rule: R)
     ensures order { SameOrder (B.build.meaning board.old) (B.build.meaning board.new) }
     ensures fairest { FairestOn (R.order rule) (B.build.meaning board.new) }
 {
-    let mut cells = [0; TABLE_NUMBERS];
+    let mut cells = [0; MOST_NUMBERS];
     let mut table = TableBoard::make(board.tasks(), board.cores(), &mut cells);
     copy_capacities(board, &mut table);
     copy_needs(board, &mut table);

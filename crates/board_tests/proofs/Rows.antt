@@ -5,6 +5,7 @@ use Rattle.std.proofs.lemmas.List.{get_or-set_same, get_or-set_other}
 use Rattle.std.proofs.lemmas.Bool.Decides.{nat_tests}
 use Rattle.std.proofs.lemmas.Bool.{cases_eq}
 use Rattle.board.specs.Meaning.{put, with_need, with_held, with_capacity, new_board}
+use Rattle.pair_board.proofs.Steps.{zeros}
 use Rattle.board_tests.specs.declared.row_board.Row.{Row}
 use Rattle.board_tests.specs.declared.row_board.RowBoard.{RowBoard}
 use Rattle.board_tests.specs.Rows.{greatest, blank, row_at, rows_for, Whole}
@@ -113,11 +114,6 @@ still-whole b core row w on needs slots = record {
 -- rows of zeros
 abbrev pub zero_row : Row
 zero_row = record { capacity = 0; needs = replicate 64 0; slots = replicate 64 0 }
-
-zeros : (n at : ℕ) → ◌≡◌ {A = ℕ} (get_or (replicate n 0) at 0) 0
-zeros zero at = refl
-zeros (suc n) zero = refl
-zeros (suc n) (suc at) = zeros n at
 
 zero-needs : (k core task : ℕ) → ◌≡◌ {A = ℕ} (get_or (row_at (replicate k zero_row) core).needs task 0) 0
 zero-needs zero core task = refl

@@ -15,6 +15,7 @@ use pair_board::PairBoard;
 use pair_board::entry::Entry;
 use table_board::TableBoard;
 
+// Tuples, since the steps of a test stand in a table, one in a line.
 #[derive(Clone, Copy)]
 pub enum Change {
     Need(usize, usize, u16),
@@ -33,22 +34,13 @@ pub fn apply<B: Board>(board: &mut B, change: Change) -> Result<(), Fault>
     }
 }
 
-// The number of the refusal, or 0.
-pub fn number(told: Result<(), Fault>) -> u8 {
-    match told {
-        Ok(()) => 0,
-        Err(fault) => fault.number(),
-    }
-}
-
-// Makes the changes one by one, until one is not told what is expected: the number of a refusal, or 0.
-pub fn first_surprise<B: Board>(board: &mut B, steps: &[(Change, u8)]) -> Option<usize>
+// Makes the changes one by one, until one is not told what is expected, a refusal by its number.
+pub fn first_surprise<B: Board>(board: &mut B, steps: &[(Change, Result<(), u8>)]) -> Option<usize>
     requires { Good B.build board.old }
     ensures { Went B.build board.old board.new }
 {
-    for (at, step) in steps.iter().enumerate() {
-        let (change, expected) = *step;
-        if number(apply(board, change)) != expected {
+    for (at, &(change, expected)) in steps.iter().enumerate() {
+        if apply(board, change).map_err(Fault::number) != expected {
             return Some(at);
         }
     }
@@ -60,7 +52,7 @@ pub fn in_lent_numbers(
     n: usize,
     m: usize,
     cells: &mut [u16],
-    steps: &[(Change, u8)],
+    steps: &[(Change, Result<(), u8>)],
 ) -> Option<usize>
     ensures { drop (numbers n m) cells.new ≡ drop (numbers n m) cells.old }
 {
@@ -73,7 +65,7 @@ pub fn in_lent_entries(
     n: usize,
     m: usize,
     entries: &mut [Entry],
-    steps: &[(Change, u8)],
+    steps: &[(Change, Result<(), u8>)],
 ) -> Option<usize>
     ensures { drop (min (length entries.old) (n * m)) entries.new ≡ drop (min (length entries.old) (n * m)) entries.old }
 {

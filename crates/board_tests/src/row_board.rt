@@ -1,29 +1,29 @@
 // A board of fixed arrays, with a row for each core; no core can be given more than 400 slots.
 ghost use Rattle.board_tests.specs.Rows.{row_build, Made};
 
-use board::Board;
 use board::fault::Fault;
+use board::{Board, MOST_CORES, MOST_TASKS};
 
 pub const GREATEST: u16 = 400;
 
 #[derive(Clone, Copy)]
 pub struct Row {
     capacity: u16,
-    needs: [u16; 64],
-    slots: [u16; 64],
+    needs: [u16; MOST_TASKS],
+    slots: [u16; MOST_TASKS],
 }
 
 #[derive(Drop)]
 pub struct RowBoard {
     tasks: usize,
     cores: usize,
-    rows: [Row; 16],
+    rows: [Row; MOST_CORES],
 }
 
 const CLEAR: Row = Row {
     capacity: 0,
-    needs: [0; 64],
-    slots: [0; 64],
+    needs: [0; MOST_TASKS],
+    slots: [0; MOST_TASKS],
 };
 
 impl RowBoard {
@@ -31,18 +31,15 @@ impl RowBoard {
     pub fn make(n: usize, m: usize) -> RowBoard
         ensures { Made n m result }
     {
-        if board::sizes_allowed(n, m) {
-            RowBoard {
-                tasks: n,
-                cores: m,
-                rows: [CLEAR; 16],
-            }
+        let (tasks, cores) = if board::sizes_allowed(n, m) {
+            (n, m)
         } else {
-            RowBoard {
-                tasks: 0,
-                cores: 0,
-                rows: [CLEAR; 16],
-            }
+            (0, 0)
+        };
+        RowBoard {
+            tasks,
+            cores,
+            rows: [CLEAR; MOST_CORES],
         }
     }
 }
@@ -109,6 +106,6 @@ impl Board for RowBoard {
     }
 
     fn clear(&mut self) {
-        self.rows = [CLEAR; 16];
+        self.rows = [CLEAR; MOST_CORES];
     }
 }

@@ -6,7 +6,6 @@ use crate::row_board::RowBoard;
 use pair_board::PairBoard;
 use pair_board::entry::Entry;
 use std::process::Abort;
-use std::test::Fail;
 use table_board::TableBoard;
 
 // What stands in a lent list before.
@@ -17,6 +16,11 @@ const BEFORE: Entry = Entry {
     held: 9,
 };
 
+// What a call told, a refusal by its number.
+fn by_number(told: Result<(), Fault>) -> Result<(), u8> {
+    told.map_err(Fault::number)
+}
+
 // Each refusal of a change, with the boundary on both sides, on a clear board of 3 tasks and 2 cores.
 fn refuses_in_order<B: Board>(rt: &impl Abort, board: &mut B)
     requires { Good B.build board.old }
@@ -24,31 +28,31 @@ fn refuses_in_order<B: Board>(rt: &impl Abort, board: &mut B)
 {
     let most = board.greatest_capacity(1);
     let steps = [
-        (Change::Need(3, 0, 1), 12),
-        (Change::Need(300, 0, 65535), 12),
-        (Change::Need(0, 2, 1), 12),
-        (Change::Need(2, 1, 1), 0),
-        (Change::Need(2, 1, 0), 0),
-        (Change::Need(0, 0, 1001), 13),
-        (Change::Need(0, 0, 1000), 0),
-        (Change::Capacity(2, 65535), 12),
-        (Change::Capacity(1, most + 1), 13),
-        (Change::Capacity(1, most), 0),
-        (Change::Held(3, 1, 65535), 12),
-        (Change::Held(0, 2, 65535), 12),
-        (Change::Held(0, 0, 1001), 14),
-        (Change::Held(0, 0, 1), 15),
-        (Change::Capacity(0, 7), 0),
-        (Change::Held(0, 0, 8), 15),
-        (Change::Held(0, 0, 7), 0),
-        (Change::Capacity(0, 6), 15),
-        (Change::Need(0, 0, 6), 14),
-        (Change::Need(0, 0, 7), 0),
-        (Change::Held(1, 0, 1), 14),
-        (Change::Need(1, 0, 2), 0),
-        (Change::Held(1, 0, 1), 15),
-        (Change::Held(0, 0, 6), 0),
-        (Change::Held(1, 0, 1), 0),
+        (Change::Need(3, 0, 1), Err(12)),
+        (Change::Need(300, 0, 65535), Err(12)),
+        (Change::Need(0, 2, 1), Err(12)),
+        (Change::Need(2, 1, 1), Ok(())),
+        (Change::Need(2, 1, 0), Ok(())),
+        (Change::Need(0, 0, 1001), Err(13)),
+        (Change::Need(0, 0, 1000), Ok(())),
+        (Change::Capacity(2, 65535), Err(12)),
+        (Change::Capacity(1, most + 1), Err(13)),
+        (Change::Capacity(1, most), Ok(())),
+        (Change::Held(3, 1, 65535), Err(12)),
+        (Change::Held(0, 2, 65535), Err(12)),
+        (Change::Held(0, 0, 1001), Err(14)),
+        (Change::Held(0, 0, 1), Err(15)),
+        (Change::Capacity(0, 7), Ok(())),
+        (Change::Held(0, 0, 8), Err(15)),
+        (Change::Held(0, 0, 7), Ok(())),
+        (Change::Capacity(0, 6), Err(15)),
+        (Change::Need(0, 0, 6), Err(14)),
+        (Change::Need(0, 0, 7), Ok(())),
+        (Change::Held(1, 0, 1), Err(14)),
+        (Change::Need(1, 0, 2), Ok(())),
+        (Change::Held(1, 0, 1), Err(15)),
+        (Change::Held(0, 0, 6), Ok(())),
+        (Change::Held(1, 0, 1), Ok(())),
     ];
     assert_eq!(rt; first_surprise(board, &steps), None);
 }
@@ -123,14 +127,14 @@ fn pair_board_reuses_entries(rt: HostRuntime) {
     let mut board = PairBoard::make(64, 16, &mut entries);
     assert_eq!(rt; board.greatest_pairs(), 2);
     let steps = [
-        (Change::Need(63, 15, 4), 0),
-        (Change::Need(0, 3, 5), 0),
-        (Change::Need(1, 1, 6), 16),
-        (Change::Need(1, 1, 0), 0),
-        (Change::Need(0, 3, 8), 0),
-        (Change::Need(63, 15, 0), 0),
-        (Change::Need(1, 1, 6), 0),
-        (Change::Need(63, 15, 1), 16),
+        (Change::Need(63, 15, 4), Ok(())),
+        (Change::Need(0, 3, 5), Ok(())),
+        (Change::Need(1, 1, 6), Err(16)),
+        (Change::Need(1, 1, 0), Ok(())),
+        (Change::Need(0, 3, 8), Ok(())),
+        (Change::Need(63, 15, 0), Ok(())),
+        (Change::Need(1, 1, 6), Ok(())),
+        (Change::Need(63, 15, 1), Err(16)),
     ];
     assert_eq!(rt; first_surprise(&mut board, &steps), None);
     assert_eq!(rt; board.need(0, 3), 8);
@@ -143,7 +147,10 @@ fn pair_board_reuses_entries(rt: HostRuntime) {
 fn table_board_takes_every_pair(rt: HostRuntime) {
     let mut cells = [7; 5];
     let mut board = TableBoard::make(2, 1, &mut cells);
-    let steps = [(Change::Need(0, 0, 1), 0), (Change::Need(1, 0, 1000), 0)];
+    let steps = [
+        (Change::Need(0, 0, 1), Ok(())),
+        (Change::Need(1, 0, 1000), Ok(())),
+    ];
     assert_eq!(rt; first_surprise(&mut board, &steps), None);
     assert_eq!(rt; board.pair_count(), board.greatest_pairs());
 }
@@ -151,24 +158,27 @@ fn table_board_takes_every_pair(rt: HostRuntime) {
 #[test]
 fn table_board_checks(rt: HostRuntime) {
     let cells = [7; 2064];
-    assert_eq!(rt; number(TableBoard::check(64, 16, &cells)), 0);
-    assert_eq!(rt; number(TableBoard::check(1, 1, &cells[..3])), 0);
-    assert_eq!(rt; number(TableBoard::check(65, 1, &cells)), 17);
-    assert_eq!(rt; number(TableBoard::check(1, 17, &cells)), 17);
-    assert_eq!(rt; number(TableBoard::check(0, 1, &cells)), 17);
-    assert_eq!(rt; number(TableBoard::check(1, 0, &cells)), 17);
-    assert_eq!(rt; number(TableBoard::check(64, 16, &cells[..2063])), 17);
+    assert_eq!(rt; by_number(TableBoard::check(64, 16, &cells)), Ok(()));
+    assert_eq!(rt; by_number(TableBoard::check(1, 1, &cells[..3])), Ok(()));
+    assert_eq!(rt; by_number(TableBoard::check(65, 1, &cells)), Err(17));
+    assert_eq!(rt; by_number(TableBoard::check(1, 17, &cells)), Err(17));
+    assert_eq!(rt; by_number(TableBoard::check(0, 1, &cells)), Err(17));
+    assert_eq!(rt; by_number(TableBoard::check(1, 0, &cells)), Err(17));
+    assert_eq!(rt;
+        by_number(TableBoard::check(64, 16, &cells[..2063])),
+        Err(17)
+    );
 }
 
 #[test]
 fn pair_board_checks(rt: HostRuntime) {
     let entries = [BEFORE; 1];
-    assert_eq!(rt; number(PairBoard::check(64, 16, &entries)), 0);
-    assert_eq!(rt; number(PairBoard::check(65, 16, &entries)), 17);
-    assert_eq!(rt; number(PairBoard::check(64, 17, &entries)), 17);
-    assert_eq!(rt; number(PairBoard::check(0, 1, &entries)), 17);
-    assert_eq!(rt; number(PairBoard::check(1, 0, &entries)), 17);
-    assert_eq!(rt; number(PairBoard::check(1, 1, &entries[..0])), 17);
+    assert_eq!(rt; by_number(PairBoard::check(64, 16, &entries)), Ok(()));
+    assert_eq!(rt; by_number(PairBoard::check(65, 16, &entries)), Err(17));
+    assert_eq!(rt; by_number(PairBoard::check(64, 17, &entries)), Err(17));
+    assert_eq!(rt; by_number(PairBoard::check(0, 1, &entries)), Err(17));
+    assert_eq!(rt; by_number(PairBoard::check(1, 0, &entries)), Err(17));
+    assert_eq!(rt; by_number(PairBoard::check(1, 1, &entries[..0])), Err(17));
 }
 
 // Where a board cannot be made, it is empty and its memory is as it was.
@@ -177,7 +187,7 @@ fn empty_board_leaves_the_memory(rt: HostRuntime) {
     let mut cells = [7; 4];
     let mut board = TableBoard::make(2, 1, &mut cells);
     assert_eq!(rt; board.tasks() + board.cores(), 0);
-    assert_eq!(rt; number(board.set_capacity(0, 0)), 12);
+    assert_eq!(rt; by_number(board.set_capacity(0, 0)), Err(12));
     board.clear();
     assert_eq!(rt; cells, [7; 4]);
 }
@@ -186,26 +196,18 @@ fn empty_board_leaves_the_memory(rt: HostRuntime) {
 fn numbers_past_the_board_stay(rt: HostRuntime) {
     let mut cells = [7; 4];
     let mut board = TableBoard::make(1, 1, &mut cells);
-    assert_eq!(rt; number(board.set_need(0, 0, 3)), 0);
-    assert_eq!(rt; number(board.set_capacity(0, 2)), 0);
-    assert_eq!(rt; number(board.set_held(0, 0, 1)), 0);
+    assert_eq!(rt; by_number(board.set_need(0, 0, 3)), Ok(()));
+    assert_eq!(rt; by_number(board.set_capacity(0, 2)), Ok(()));
+    assert_eq!(rt; by_number(board.set_held(0, 0, 1)), Ok(()));
     assert_eq!(rt; cells, [3, 1, 2, 7]);
 }
 
 // A fault of a board has layer 2 and place 0.
 #[test]
-fn fault_of_a_board(rt: HostRuntime) -> Result<(), Fail> {
+fn fault_of_a_board(rt: HostRuntime) {
     let told = RowBoard::make(3, 2).set_capacity(0, 401);
-    match told {
-        Ok(()) => {
-            assert!(rt; false);
-            Ok(())
-        },
-        Err(fault) => {
-            assert_eq!(rt; fault.number(), 13);
-            assert_eq!(rt; fault.layer(), 2);
-            assert_eq!(rt; fault.place, 0);
-            Ok(())
-        }
-    }
+    let fault = told.expect_err(&rt, "no core of it can be given 401 slots");
+    assert_eq!(rt; fault.number(), 13);
+    assert_eq!(rt; fault.layer(), 2);
+    assert_eq!(rt; fault.place, 0);
 }

@@ -1,15 +1,18 @@
 -- What a core has given, added up by entries.
-use Rattle.std.proofs.Common.{◌≡◌, ℕ, ◌<◌, ◌≤◌, cond, ◌&&◌, eqb, List, refl, ◌∙◌, arith}
+use Rattle.std.proofs.Common.{◌≡◌, ℕ, ◌≤◌, cond, ◌&&◌, eqb, List, zero, suc, length, take, ◌++◌, [], ◌∷◌, ◌+◌, refl, sym, ap, ◌∙◌, add-one, arith}
 use Rattle.std.proofs.lemmas.Bool.Decides.{nat_tests}
 use Rattle.fairness.specs.Sums.{sum_to}
 use Rattle.fairness.proofs.Sums.{sum-swap, sum-eq, sum_one}
 use Rattle.pair_board.specs.declared.entry.Entry.{Entry}
-use Rattle.board.specs.Meaning.{Meaning}
+use Rattle.board.specs.Meaning.{given_at}
 use Rattle.board.specs.Boards.{Good}
 use Rattle.pair_board.specs.declared.PairBoard.{PairBoard}
-use Rattle.pair_board.specs.Entries.{entry_at, is_for, amounts, Serving}
+use Rattle.pair_board.specs.Entries.{blank, entry_at, is_for, amounts, slots_of, Serving}
 use Rattle.pair_board.specs.Pairs.{pairs_of, pair_build}
-use Rattle.pair_board.proofs.Lookups.{for-pair, at-found}
+use Rattle.pair_board.proofs.Steps.{in_list}
+use Rattle.std.proofs.lemmas.List.{take_more, map-append}
+use Rattle.std.proofs.lemmas.List.Elements.{filter-append}
+use Rattle.std.proofs.lemmas.Grind.{common_steps}
 
 -- what an entry adds to a core
 abbrev pub adds : List Entry → ℕ → ℕ → ℕ
@@ -28,15 +31,18 @@ by_entries n m entries used core serving =
     sum-eq n (λ task. cond (is_for e task core) e.held 0) (λ task. cond (eqb task e.task) (cond (eqb e.core core) e.held 0) 0) (λ task _. one-task task core e.held e.task e.core)
     ∙ sum_one n e.task (cond (eqb e.core core) e.held 0) (serving.on_tasks at l))
 
-pub adds-here : (entries : List Entry) (core at : ℕ) → (entry_at entries at).core ≡ core → adds entries core at ≡ (entry_at entries at).held
-adds-here entries core at here = grind (arith, nat_tests)
+-- the entries in use, added up one by one
+slots-sum : (entries : List Entry) (core used : ℕ) → used ≤ length entries → slots_of (take used entries) core ≡ sum_to used (adds entries core)
+slots-sum entries core zero fits = refl
+slots-sum entries core (suc used) fits =
+    let one = take_more entries used blank (omega arith) in
+    let before = slots-sum entries core used (omega arith) in
+    let apart : slots_of (take used entries ++ entry_at entries used ∷ []) core ≡ slots_of (take used entries) core + slots_of (entry_at entries used ∷ []) core =
+    grind (arith, filter-append, map-append, common_steps) in
+    let last : slots_of (entry_at entries used ∷ []) core ≡ adds entries core used = grind (arith, nat_tests) in
+    ap (λ xs. slots_of xs core) (ap (λ k. take k entries) (sym (add-one used)) ∙ one) ∙ omega (arith, apart, last, before)
 
-pub adds_none : (entries : List Entry) (core at : ℕ) → ((entry_at entries at).core ≡ core → ⊥) → adds entries core at ≡ 0
-adds_none entries core at other = grind (arith, nat_tests)
-
-pub held_low : (b : PairBoard) → Good pair_build b → (at : ℕ) → at < b.used → (entry_at b.entries.now at).held ≤ 1000
-held_low b good at l =
-    let m : Meaning = pairs_of b in
-    let e : Entry = entry_at b.entries.now at in
-    let found = at-found (λ entry. entry.held) b.tasks b.cores b.entries.now b.used e.task e.core at good.serves.serving (l, for-pair e e.task e.core refl refl) in
-    omega (arith, found, good.sound.covered e.task e.core, good.sound.small e.task e.core)
+pub given-slots : (b : PairBoard) (core : ℕ) → Good pair_build b → slots_of (take b.used b.entries.now) core ≡ given_at (pairs_of b) core
+given-slots b core good =
+    slots-sum b.entries.now core b.used (omega (arith, in_list b good))
+    ∙ sym (by_entries b.tasks b.cores b.entries.now b.used core good.serves.serving)

@@ -1,5 +1,6 @@
 -- What the amounts of a list of entries come to: for a pair that has an entry, and for one that has none.
-use Rattle.std.proofs.Common.{◌≡◌, ℕ, ◌<◌, true, false, cond, eqb, List, sym, ◌∙◌, inl, inr, arith}
+use Rattle.std.proofs.Common.{◌≡◌, ℕ, ◌<◌, true, false, cond, eqb, List, Option, None, Some, MatchOption, sym, ◌∙◌, inl, inr, arith}
+use Rattle.std.specs.Option.{option_map_or}
 use mathlib.Core.Path.{fun_ext}
 use Rattle.std.proofs.lemmas.Bool.Decides.{nat_tests}
 use Rattle.std.proofs.lemmas.Bool.{cases_eq, cases_Bool, cond-true, cond-false, and_parts, eqb-true}
@@ -7,7 +8,7 @@ use Rattle.fairness.specs.Plans.{Plan}
 use Rattle.fairness.proofs.Sums.{sum-eq, sum-zero, sum-point}
 use Rattle.board.specs.Meaning.{put}
 use Rattle.pair_board.specs.declared.entry.Entry.{Entry}
-use Rattle.pair_board.specs.Entries.{entry_at, is_for, amounts, Absent, At, Serving}
+use Rattle.pair_board.specs.Entries.{blank, entry_at, is_for, amounts, Absent, At, Serving}
 
 -- an entry's part in a pair's amount
 abbrev pub part : (Entry → ℕ) → List Entry → ℕ → ℕ → ℕ → ℕ
@@ -50,6 +51,13 @@ at-found amount n m entries used task core here serving found =
       sum-zero used,
       sum-point used here (λ _. 0) (part amount entries task core) found.0 (λ at below ne. cond-false _ _ _ (others n m entries used task core here serving found at below ne)),
     )
+
+-- what the entry that was looked up says, or the blank one where there is none
+pub says : (amount : Entry → ℕ) (n m : ℕ) (entries : List Entry) (used task core : ℕ) (found : Option ℕ) → Serving n m entries used
+    → MatchOption found (Absent entries used task core) (λ at. At entries used task core at) → amount blank ≡ 0
+    → amount (option_map_or (entry_at entries) found blank) ≡ amounts amount entries used task core
+says amount n m entries used task core None serving absent zero = zero ∙ sym (absent_none amount entries used task core absent)
+says amount n m entries used task core (Some at) serving here zero = sym (at-found amount n m entries used task core at serving here)
 
 -- a plan with one number put where it already stands is the plan
 pub put_same : (plan : Plan) (task core amount : ℕ) → plan task core ≡ amount → put plan task core amount ≡ plan

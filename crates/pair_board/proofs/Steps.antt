@@ -152,7 +152,8 @@ capacity-changed n m used capacities entries core amount cm long =
       greatest_capacity = λ core. cond (ltb core m) most_slots 0;
     }
 
-zeros : (n at : ℕ) → ◌≡◌ {A = ℕ} (get_or (replicate n 0) at 0) 0
+-- a list of zeros
+pub zeros : (n at : ℕ) → ◌≡◌ {A = ℕ} (get_or (replicate n 0) at 0) 0
 zeros zero at = refl
 zeros (suc n) zero = refl
 zeros (suc n) (suc at) = zeros n at

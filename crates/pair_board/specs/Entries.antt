@@ -1,5 +1,5 @@
 -- What a list of entries says of each pair of a task and a core.
-use Rattle.std.specs.Prelude.{◌≡◌, ℕ, ◌<◌, Bool, true, false, cond, ◌&&◌, List, ◌==◌, slice_index_or}
+use Rattle.std.specs.Prelude.{◌≡◌, ℕ, ◌<◌, Bool, true, false, cond, ◌&&◌, List, map, ◌==◌, filter, sum, slice_index_or}
 use Rattle.fairness.specs.Sums.{sum_to}
 use Rattle.fairness.specs.Plans.{Plan}
 use Rattle.pair_board.specs.declared.entry.Entry.{Entry}
@@ -16,6 +16,10 @@ is_for entry task core = entry.task == task && entry.core == core
 -- an amount for each pair: what the entries in use say of it together
 abbrev pub amounts : (Entry → ℕ) → List Entry → ℕ → Plan
 amounts amount entries used task core = sum_to used (λ at. cond (is_for (entry_at entries at) task core) (amount (entry_at entries at)) 0)
+
+-- the slots that the entries hold of a core
+abbrev pub slots_of : List Entry → ℕ → ℕ
+slots_of entries core = sum (map (λ entry. entry.held) (filter (λ entry. entry.core == core) entries))
 
 -- no entry in use is for the pair
 abbrev pub Absent : List Entry → ℕ → ℕ → ℕ → Type 0

@@ -1,24 +1,28 @@
 // A board that lies in a lent list of entries, one for each pair of a task and a core with a need; the capacities stand in the board itself.
 #![tactic(auto)]
 
-ghost use Rattle.std.specs.Prelude.{◌≡◌, ◌<◌, ◌≤◌, length, MatchOption};
+ghost use Rattle.std.specs.Prelude.{◌≡◌, ◌^◌, ◌<◌, ◌≤◌, length, MatchOption};
 ghost use Rattle.board.specs.Outcomes.{checked};
-ghost use Rattle.pair_board.specs.Entries.{entry_at, is_for, Absent, At};
-ghost use Rattle.pair_board.specs.Pairs.{pair_fits, Made, pair_build};
+ghost use Rattle.board.specs.Boards.{Good};
+ghost use Rattle.pair_board.specs.Entries.{Absent, At, slots_of};
+ghost use Rattle.pair_board.specs.Pairs.{pair_fits, Made, pairs_of, pair_build};
 
 pub mod entry;
 
-use board::Board;
 use board::fault::{Fault, Refusal};
-use entry::Entry;
+use board::{Board, MOST_CORES, MOST_SLOTS, MOST_TASKS};
+use entry::{BLANK, Entry};
 
-// The entries in use come first.
+// How many entries the largest board can use.
+pub const MOST_ENTRIES: usize = MOST_TASKS * MOST_CORES;
+
+// The entries in use come first. Their number stands beside the list, since the list is lent and holds more.
 #[derive(Drop)]
 pub struct PairBoard<'a> {
     tasks: usize,
     cores: usize,
     used: usize,
-    capacities: [u16; board::MOST_CORES],
+    capacities: [u16; MOST_CORES],
     entries: &'a mut [Entry],
 }
 
@@ -38,51 +42,56 @@ impl<'a> PairBoard<'a> {
     pub fn make(n: usize, m: usize, entries: &'a mut [Entry]) -> PairBoard<'a>
         ensures { Made n m entries.entry result }
     {
-        if PairBoard::check(n, m, entries).is_err() {
-            return PairBoard {
-                tasks: 0,
-                cores: 0,
-                used: 0,
-                capacities: [0; board::MOST_CORES],
-                entries,
-            };
-        }
+        let (tasks, cores) = if PairBoard::check(n, m, entries).is_err() {
+            (0, 0)
+        } else {
+            (n, m)
+        };
         PairBoard {
-            tasks: n,
-            cores: m,
+            tasks,
+            cores,
             used: 0,
-            capacities: [0; board::MOST_CORES],
+            capacities: [0; MOST_CORES],
             entries,
         }
     }
 }
 
-impl PairBoard<'_> {
-    fn is_for(&self, at: usize, task: usize, core: usize) -> bool
-        requires { at < length self.now.entries.now }
-        ensures { result ≡ is_for (entry_at self.now.entries.now at) task core }
-    {
-        let entry = self.entries[at];
-        entry.task as usize == task && entry.core as usize == core
-    }
+// The slots that these entries hold of a core.
+fn slots_of(entries: &[Entry], core: usize) -> u32
+    requires { slots_of entries.now core < 2 ^ 32 }
+    ensures { result ≡ slots_of entries.now core }
+{
+    entries
+        .iter()
+        .filter(|entry| entry.core as usize == core)
+        .map(|entry| entry.held as u32)
+        .sum()
+}
 
+impl PairBoard<'_> {
     // Where the pair's entry is.
     fn find(&self, task: usize, core: usize) -> Option<usize>
         requires { self.now.used ≤ length self.now.entries.now }
         ensures { MatchOption result (Absent self.now.entries.now self.now.used task core) (λ at. At self.now.entries.now self.now.used task core at) }
     {
         // Where every pair has a need, and they came in order, the entry is here.
-        let place = task.min(board::MOST_TASKS) * self.cores.min(board::MOST_CORES)
-            + core.min(board::MOST_CORES);
-        if place < self.used && self.is_for(place, task, core) {
+        let place = task.min(MOST_TASKS) * self.cores.min(MOST_CORES) + core.min(MOST_CORES);
+        if place < self.used && self.entries[place].is_for(task, core) {
             return Some(place);
         }
-        for at in 0..self.used {
-            if self.is_for(at, task, core) {
-                return Some(at);
-            }
-        }
-        None
+        self.entries[..self.used]
+            .iter()
+            .position(|entry| entry.is_for(task, core))
+    }
+
+    // What the pair's entry says of need and slots; nothing of either where it has none.
+    fn entry_for(&self, task: usize, core: usize) -> Entry
+        requires { Good pair_build self.now }
+        ensures need { result.need ≡ (pairs_of self.now).need task core }
+        ensures held { result.held ≡ (pairs_of self.now).held task core }
+    {
+        self.find(task, core).map_or(BLANK, |at| self.entries[at])
     }
 }
 
@@ -106,17 +115,11 @@ impl<'a> Board for PairBoard<'a> {
     }
 
     fn need(&self, task: usize, core: usize) -> u16 {
-        match self.find(task, core) {
-            Some(at) => self.entries[at].need,
-            None => 0,
-        }
+        self.entry_for(task, core).need
     }
 
     fn held(&self, task: usize, core: usize) -> u16 {
-        match self.find(task, core) {
-            Some(at) => self.entries[at].held,
-            None => 0,
-        }
+        self.entry_for(task, core).held
     }
 
     fn greatest_pairs(&self) -> usize {
@@ -124,37 +127,28 @@ impl<'a> Board for PairBoard<'a> {
     }
 
     fn greatest_capacity(&self, core: usize) -> u16 {
-        if core < self.cores {
-            board::MOST_SLOTS
-        } else {
-            0
-        }
+        if core < self.cores { MOST_SLOTS } else { 0 }
     }
 
     fn set_need(&mut self, task: usize, core: usize, need: u16) -> Result<(), Fault> {
         self.test_need(task, core, need)?;
-        match self.find(task, core) {
-            Some(at) => {
-                if need > 0 {
-                    self.entries[at].need = need;
-                } else {
-                    // The last entry in use fills the gap.
-                    let last = self.used - 1;
-                    self.entries[at] = self.entries[last];
-                    self.used = last;
-                }
+        match (self.find(task, core), need) {
+            (Some(at), 0) => {
+                // The last entry in use fills the gap.
+                let last = self.used - 1;
+                self.entries[at] = self.entries[last];
+                self.used = last;
             }
-            None => {
-                if need > 0 {
-                    let next = self.used;
-                    self.entries[next] = Entry {
-                        task: task as u8,
-                        core: core as u8,
-                        need,
-                        held: 0,
-                    };
-                    self.used = next + 1;
-                }
+            (Some(at), _) => self.entries[at].need = need,
+            (None, 0) => {}
+            (None, _) => {
+                self.entries[self.used] = Entry {
+                    task: task as u8,
+                    core: core as u8,
+                    need,
+                    held: 0,
+                };
+                self.used += 1;
             }
         }
         Ok(())
@@ -176,7 +170,7 @@ impl<'a> Board for PairBoard<'a> {
 
     fn clear(&mut self) {
         self.used = 0;
-        self.capacities = [0; board::MOST_CORES];
+        self.capacities = [0; MOST_CORES];
     }
 
     fn pair_count(&self) -> usize {
@@ -185,13 +179,6 @@ impl<'a> Board for PairBoard<'a> {
 
     // One pass over the entries, however many tasks there are.
     fn given(&self, core: usize) -> u32 {
-        let mut given = 0;
-        for at in 0..self.used {
-            let entry = self.entries[at];
-            if entry.core as usize == core {
-                given += entry.held as u32;
-            }
-        }
-        given
+        slots_of(&self.entries[..self.used], core)
     }
 }

@@ -1,24 +1,23 @@
 -- Each step of copying is accepted, and what it comes to.
-use Rattle.std.proofs.Common.{◌≡◌, ℕ, ◌+◌, ◌*◌, ◌<◌, ◌≤◌, min, sym, refl, ap, ◌∙◌, subst, arith}
+use Rattle.std.proofs.Common.{◌≡◌, ℕ, ◌+◌, ◌*◌, ◌<◌, ◌≤◌, min, max, sym, refl, ap, ◌∙◌, subst, arith}
+use mathlib.Core.Path.{fun_ext}
 use Rattle.fairness.specs.Plans.{Plan, given}
 use Rattle.fairness.proofs.Sums.{sum-le, sum-zero}
 use Rattle.board.specs.Meaning.{Meaning, Sound, planned, given_at, put, with_held}
 use Rattle.board.specs.Outcomes.{done, after, set_need, set_held, set_capacity}
-use Rattle.board.proofs.Changes.{done-capacity, done-need, done_held, done-fewer, given-put}
+use Rattle.board.proofs.Changes.{done-capacity, done-need, done_held, given-put}
 use Rattle.table_board.proofs.Pairs.{pairs_below}
-use Rattle.table_levelling.specs.Copies.{tasks_to, row_to, capacities_to, lesser, ordered, Roomy, Holds, Above}
+use Rattle.table_levelling.specs.Copies.{tasks_to, row_to, capacities_to, pairwise, ordered, Roomy, Holds, Reachable}
 use Rattle.std.proofs.lemmas.Bool.Decides.{nat_tests}
-use Rattle.table_levelling.proofs.Mixtures.{capacities-start, capacities-put, capacities-all, row-start, row_put, row_here, row-le, tasks-start, tasks-row, tasks-all}
+use Rattle.table_levelling.proofs.Mixtures.{capacities-start, capacities-put, capacities-all, row-start, row_put, row_here, row-le, tasks-here, tasks-change, tasks-start, tasks-row, tasks-all}
 
--- a plan that lies below a feasible one at each pair can be given the feasible one's slots at a pair
-pub held-done : (m : Meaning) (most : Plan) (task core : ℕ) → task < m.tasks → core < m.cores → most task core ≤ m.need task core
-    → given m.tasks most core ≤ m.capacity core → ((t c : ℕ) → m.held t c ≤ most t c)
-    → set_held m task core (most task core) ≡ done (with_held m task core (most task core))
-held-done m most task core tn cm within room below =
-    let v = most task core in
-    let under : given_at (with_held m task core v) core ≤ given m.tasks most core
-    = sum-le m.tasks (λ t. put m.held task core v t core) (λ t. most t core) (λ t _. grind (arith, below t core)) in
-    done_held m task core v tn cm within (omega (arith, under, given-put m task core v tn))
+-- a plan that lies below one with room at the core can be given any slots at a pair that this one has
+pub held-done : (m : Meaning) (most : Plan) (task core amount : ℕ) → task < m.tasks → core < m.cores → amount ≤ m.need task core → amount ≤ most task core
+    → given m.tasks most core ≤ m.capacity core → ((t c : ℕ) → m.held t c ≤ most t c) → set_held m task core amount ≡ done (with_held m task core amount)
+held-done m most task core amount tn cm within inside room below =
+    let under : given_at (with_held m task core amount) core ≤ given m.tasks most core
+    = sum-le m.tasks (λ t. put m.held task core amount t core) (λ t. most t core) (λ t _. grind (arith, nat_tests, below t core)) in
+    done_held m task core amount tn cm within (omega (arith, under, given-put m task core amount tn))
 
 capacity-beyond : (m : Meaning) → Sound m → (core : ℕ) → m.cores ≤ core → m.capacity core ≡ 0
 capacity-beyond m so core out = omega (arith, so.capped core, so.no_core core out)
@@ -84,30 +83,19 @@ row-none new to task = ap (planned to) (sym (row-start new to.held task))
 pub tasks-none : (new : Plan) (to : Meaning) → to ≡ planned to (tasks_to new to.held 0)
 tasks-none new to = ap (planned to) (sym (tasks-start new to.held))
 
--- one slot count of a row set to the new plan's
-row-set : (new : Plan) (old m b : Meaning) (task core v : ℕ) → v ≡ new task core → set_held m task core v ≡ done (with_held m task core v)
-    → m ≡ planned old (row_to new old.held task core) → b ≡ after m (set_held m task core v) → b ≡ planned old (row_to new old.held task (core + 1))
-row-set new old m b task core v ve e me be =
-    be ∙ (ap (after m) e ∙ (ap (λ (z : Meaning). with_held z task core v) me ∙ (ap (λ z. planned old (put (row_to new old.held task core) task core z)) ve ∙ ap (planned old) (row_put new old.held task core))))
-
-pub lower-more : (from old m b : Meaning) (task core a h v : ℕ) → Sound m → task < m.tasks → core < m.cores → a ≡ from.held task core → h ≡ m.held task core → v ≡ min a h
-    → m ≡ planned old (row_to (lesser from.held old.held) old.held task core) → b ≡ after m (set_held m task core v)
-    → b ≡ planned old (row_to (lesser from.held old.held) old.held task (core + 1))
-lower-more from old m b task core a h v so tn cm ae he ve me be =
-    let new : Plan = lesser from.held old.held in
-    let here : m.held task core ≡ old.held task core = ap (λ (z : Meaning). z.held task core) me ∙ row_here new old.held task core in
-    let what : v ≡ new task core = ve ∙ (ap (λ z. min z h) ae ∙ ap (min (from.held task core)) (he ∙ here)) in
-    row-set new old m b task core v what (done-fewer m task core v so tn cm (omega (arith, ve, he))) me be
-
-pub raise-more : (from old m b : Meaning) (task core v : ℕ) → task < old.tasks → core < old.cores → v ≡ from.held task core → Holds from old → Above from old
-    → m ≡ planned old (row_to from.held old.held task core) → b ≡ after m (set_held m task core v)
-    → b ≡ planned old (row_to from.held old.held task (core + 1))
-raise-more from old m b task core v tn cm ve holds above me be =
-    let s : Meaning = planned old (row_to from.held old.held task core) in
-    let e = held-done s from.held task core tn cm (holds.within task core) (holds.room core cm) (row-le from.held old.held from.held task core (λ t c. omega arith) above) in
-    let P : Meaning → Type 0 = λ z. set_held z task core v ≡ done (with_held z task core v) in
-    let Q : ℕ → Type 0 = λ z. set_held s task core z ≡ done (with_held s task core z) in
-    row-set from.held old m b task core v ve (subst P (sym me) (subst Q (sym ve) e)) me be
+-- one slot count of a row changed
+pub change-more : (change : ℕ → ℕ → ℕ) (from old m b : Meaning) (task core : ℕ) → task < old.tasks → core < old.cores → Reachable (pairwise change from.held old.held) old
+    → m ≡ planned old (row_to (pairwise change from.held old.held) old.held task core) → b ≡ after m (set_held m task core (pairwise change from.held m.held task core))
+    → b ≡ planned old (row_to (pairwise change from.held old.held) old.held task (core + 1))
+change-more change from old m b task core tn cm reach me be =
+    let new : Plan = pairwise change from.held old.held in
+    let most : Plan = pairwise max new old.held in
+    let s : Meaning = planned old (row_to new old.held task core) in
+    let what : pairwise change from.held s.held task core ≡ new task core = ap (change (from.held task core)) (row_here new old.held task core) in
+    let e = held-done s most task core (new task core) tn cm (reach.within task core) (omega arith) (reach.room core cm)
+    (row-le new old.held most task core (λ t c. omega arith) (λ t c. omega arith)) in
+    be ∙ (ap (λ (z : Meaning). after z (set_held z task core (pairwise change from.held z.held task core))) me
+    ∙ (ap (λ z. after s (set_held s task core z)) what ∙ (ap (after s) e ∙ ap (planned old) (row_put new old.held task core))))
 
 pub row-whole : (new : Plan) (old m : Meaning) (task core : ℕ) → core ≡ old.cores → m ≡ planned old (row_to new old.held task core) → m ≡ planned old (row_to new old.held task old.cores)
 row-whole new old m task core e me = me ∙ ap (λ z. planned old (row_to new old.held task z)) e
@@ -120,38 +108,54 @@ tasks-more new next old m b task same here me be =
     be ∙ (ap (λ (z : Meaning). planned z (row_to (next z.held) z.held task z.cores)) me
     ∙ ap (planned old) (tasks-row new old.held (next (tasks_to new old.held task)) task old.cores same here))
 
-pub lower-tasks-more : (from old m b : Meaning) (task : ℕ) → Sound old → m ≡ planned old (tasks_to (lesser from.held old.held) old.held task)
-    → b ≡ planned m (row_to (lesser from.held m.held) m.held task m.cores) → b ≡ planned old (tasks_to (lesser from.held old.held) old.held (task + 1))
-lower-tasks-more from old m b task so me be =
-    tasks-more (lesser from.held old.held) (lesser from.held) old m b task (λ t c out. omega (arith, held-beyond-cores old so t c out)) (λ c. grind (arith, nat_tests)) me be
+-- what is reached lies on the board
+off-cores : (to : Meaning) (plan : Plan) → Sound to → Reachable plan to → (t c : ℕ) → to.cores ≤ c → plan t c ≡ to.held t c
+off-cores to plan so reach t c out = omega (arith, reach.within t c, so.beyond_cores t c out, held-beyond-cores to so t c out)
 
-pub raise-tasks-more : (from old m b : Meaning) (task : ℕ) → Sound from → Sound old → Holds from old → m ≡ planned old (tasks_to from.held old.held task)
-    → b ≡ planned m (row_to from.held m.held task m.cores) → b ≡ planned old (tasks_to from.held old.held (task + 1))
-raise-tasks-more from old m b task sf so holds me be =
-    tasks-more from.held (λ _. from.held) old m b task (λ t c out. omega (arith, held-beyond-cores old so t c out, held-beyond-cores from sf t c (omega (arith, holds.cores)))) (λ c. refl) me be
+off-tasks : (to : Meaning) (plan : Plan) → Sound to → Reachable plan to → (t c : ℕ) → to.tasks ≤ t → plan t c ≡ to.held t c
+off-tasks to plan so reach t c out = omega (arith, reach.within t c, so.beyond_tasks t c out, held-beyond-tasks to so t c out)
 
-pub lower-whole : (from old m : Meaning) (task : ℕ) → Sound old → task ≡ old.tasks → m ≡ planned old (tasks_to (lesser from.held old.held) old.held task)
-    → m ≡ planned old (lesser from.held old.held)
-lower-whole from old m task so e me =
-    me ∙ (ap (λ z. planned old (tasks_to (lesser from.held old.held) old.held z)) e
-    ∙ ap (planned old) (tasks-all (lesser from.held old.held) old.held old.tasks (λ t c out. omega (arith, held-beyond-tasks old so t c out))))
+pub change-tasks-more : (change : ℕ → ℕ → ℕ) (from old m b : Meaning) (task : ℕ) → Sound old → Reachable (pairwise change from.held old.held) old
+    → m ≡ planned old (tasks_to (pairwise change from.held old.held) old.held task)
+    → b ≡ planned m (row_to (pairwise change from.held m.held) m.held task m.cores) → b ≡ planned old (tasks_to (pairwise change from.held old.held) old.held (task + 1))
+change-tasks-more change from old m b task so reach me be =
+    let new : Plan = pairwise change from.held old.held in
+    tasks-more new (pairwise change from.held) old m b task (off-cores old new so reach) (λ c. ap (change (from.held task c)) (tasks-here new old.held task c)) me be
 
-pub raise-whole : (from old m : Meaning) (task : ℕ) → Sound from → Sound old → Holds from old → task ≡ old.tasks → m ≡ planned old (tasks_to from.held old.held task)
-    → m ≡ planned old from.held
-raise-whole from old m task sf so holds e me =
-    me ∙ (ap (λ z. planned old (tasks_to from.held old.held z)) e
-    ∙ ap (planned old) (tasks-all from.held old.held old.tasks (λ t c out. omega (arith, held-beyond-tasks old so t c out, held-beyond-tasks from sf t c (omega (arith, holds.tasks))))))
+pub change-whole : (change : ℕ → ℕ → ℕ) (from old m : Meaning) (task : ℕ) → Sound old → Reachable (pairwise change from.held old.held) old → task ≡ old.tasks
+    → m ≡ planned old (tasks_to (pairwise change from.held old.held) old.held task) → m ≡ planned old (pairwise change from.held old.held)
+change-whole change from old m task so reach e me =
+    let new : Plan = pairwise change from.held old.held in
+    me ∙ (ap (λ z. planned old (tasks_to new old.held z)) e ∙ ap (planned old) (tasks-all new old.held old.tasks (off-tasks old new so reach)))
 
--- the plan of from stays feasible and above while the tasks of to rise
-pub holds_on : (from old m : Meaning) (plan : Plan) → m ≡ planned old plan → Holds from old → Holds from m
-holds_on from old m plan me holds = let P : Meaning → Type 0 = λ z. Holds from z in
-    subst P (sym me) (record { tasks = holds.tasks; cores = holds.cores; within = holds.within; room = holds.room })
+-- the plan can still be reached when some tasks have gone over to it
+pub reach-on : (change : ℕ → ℕ → ℕ) (from old m : Meaning) (task : ℕ) → ((a b : ℕ) → change a (change a b) ≡ change a b)
+    → m ≡ planned old (tasks_to (pairwise change from.held old.held) old.held task) → Reachable (pairwise change from.held old.held) old → Reachable (pairwise change from.held m.held) m
+reach-on change from old m task settled me reach =
+    let new : Plan = pairwise change from.held old.held in
+    let mixed : Plan = tasks_to new old.held task in
+    let same : pairwise change from.held mixed ≡ new = fun_ext (λ t. fun_ext (λ c. tasks-change change from.held old.held settled task t c)) in
+    let P : Meaning → Type 0 = λ z. Reachable (pairwise change from.held z.held) z in
+    let Q : Plan → Type 0 = λ z. Reachable z (planned old mixed) in
+    let lower : (core : ℕ) → given old.tasks (pairwise max new mixed) core ≤ given old.tasks (pairwise max new old.held) core =
+    λ core. sum-le old.tasks (λ t. max (new t core) (mixed t core)) (λ t. max (new t core) (old.held t core)) (λ t _. grind (arith, nat_tests)) in
+    subst P (sym me) (subst Q (sym same) (record { within = reach.within; room = λ core l. omega (arith, lower core, reach.room core l) }))
 
-pub above-lesser : (from old m : Meaning) → m ≡ planned old (lesser from.held old.held) → Above from m
-above-lesser from old m me = let P : Meaning → Type 0 = λ z. Above from z in subst P (sym me) (λ t c. omega arith)
+-- slots can fall, and they can rise to those of a feasible plan that has no fewer
+pub lower-reach : (from to : Meaning) → Sound to → Reachable (pairwise min from.held to.held) to
+lower-reach from to so = record {
+  within = λ t c. omega (arith, so.covered t c);
+  room = λ c l. omega (arith, so.fits c l, sum-le to.tasks (λ t. max (min (from.held t c) (to.held t c)) (to.held t c)) (λ t. to.held t c) (λ t _. omega arith));
+}
 
-pub above-tasks : (from old m : Meaning) (task : ℕ) → m ≡ planned old (tasks_to from.held old.held task) → Above from old → Above from m
-above-tasks from old m task me above = let P : Meaning → Type 0 = λ z. Above from z in subst P (sym me) (λ t c. grind (arith, nat_tests, above t c))
+pub raise-reach : (from old m : Meaning) → Holds from old → m ≡ planned old (pairwise min from.held old.held) → Reachable from.held m
+raise-reach from old m holds me =
+    let P : Meaning → Type 0 = λ z. Reachable from.held z in
+    let low : Plan = pairwise min from.held old.held in
+    subst P (sym me) (record {
+      within = holds.within;
+      room = λ c l. omega (arith, holds.room c l, sum-le old.tasks (λ t. max (from.held t c) (low t c)) (λ t. from.held t c) (λ t _. omega arith));
+    })
 
 -- to is as roomy as it was, and each task starts where the one before it ended
 

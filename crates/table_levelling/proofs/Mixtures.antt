@@ -1,11 +1,11 @@
 -- Laws of plans that are new in front and old behind.
-use Rattle.std.proofs.Common.{◌≡◌, ℕ, ◌+◌, ◌≤◌, cond, eqb, inl, inr, arith}
+use Rattle.std.proofs.Common.{◌≡◌, ℕ, ◌+◌, ◌≤◌, cond, eqb, inl, inr, ap, ◌∙◌, arith}
 use mathlib.Core.Path.{fun_ext}
 use Rattle.std.proofs.lemmas.Bool.Decides.{nat_tests}
-use Rattle.std.proofs.lemmas.Bool.{cases_lt, cases_eq}
+use Rattle.std.proofs.lemmas.Bool.{cases_lt, cases_eq, cond-true, cond-false, lt-ltb, le-ltb}
 use Rattle.fairness.specs.Plans.{Plan}
 use Rattle.board.specs.Meaning.{put}
-use Rattle.table_levelling.specs.Copies.{tasks_to, row_to, capacities_to}
+use Rattle.table_levelling.specs.Copies.{tasks_to, row_to, pairwise, capacities_to}
 
 pub row-start : (new old : Plan) (task : ℕ) → row_to new old task 0 ≡ old
 row-start new old task = fun_ext (λ t. fun_ext (λ c. grind (arith, nat_tests)))
@@ -28,6 +28,18 @@ row-le new old most task bound p q t c = grind (arith, nat_tests, p t c, q t c)
 
 pub tasks-start : (new old : Plan) → tasks_to new old 0 ≡ old
 tasks-start new old = fun_ext (λ t. fun_ext (λ c. grind (arith, nat_tests)))
+
+-- the task that comes next is still old
+pub tasks-here : (new old : Plan) (task core : ℕ) → tasks_to new old task task core ≡ old task core
+tasks-here new old task core = grind (arith, nat_tests)
+
+-- a change that settles makes the same of plans of which some tasks are changed
+pub tasks-change : (change : ℕ → ℕ → ℕ) (from old : Plan) → ((a b : ℕ) → change a (change a b) ≡ change a b)
+    → (bound t c : ℕ) → change (from t c) (tasks_to (pairwise change from old) old bound t c) ≡ change (from t c) (old t c)
+tasks-change change from old settled bound t c = elim (cases_lt t bound) [
+  | inl l ↦ ap (change (from t c)) (cond-true _ _ _ (lt-ltb t bound l)) ∙ settled (from t c) (old t c)
+  | inr l ↦ ap (change (from t c)) (cond-false _ _ _ (le-ltb t bound l))
+]
 
 -- one task more
 pub tasks-row : (new old next : Plan) (task cores : ℕ) → ((t c : ℕ) → cores ≤ c → new t c ≡ old t c) → ((c : ℕ) → next task c ≡ new task c)

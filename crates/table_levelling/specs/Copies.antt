@@ -1,5 +1,6 @@
 -- How an order and a plan go from one board to another: task by task, and core by core within a task.
-use Rattle.std.specs.Prelude.{◌≡◌, ℕ, ◌*◌, ◌<◌, ◌≤◌, min, cond, ◌&&◌, ◌==◌, nat_lt}
+use Rattle.std.specs.Prelude.{◌≡◌, ℕ, ◌*◌, ◌<◌, ◌≤◌, refl, min, max, cond, ◌&&◌, ◌==◌, nat_lt}
+use Rattle.std.proofs.Common.{arith}
 use Rattle.fairness.specs.Plans.{Plan, given}
 use Rattle.board.specs.Meaning.{Meaning, most_slots}
 
@@ -11,9 +12,15 @@ tasks_to new old bound task core = cond (nat_lt task bound) (new task core) (old
 abbrev pub row_to : Plan → Plan → ℕ → ℕ → Plan
 row_to new old task bound t c = cond (t == task && nat_lt c bound) (new t c) (old t c)
 
--- pair by pair the lesser number
-abbrev pub lesser : Plan → Plan → Plan
-lesser a b task core = min (a task core) (b task core)
+-- pair by pair what is made of the numbers of two plans
+abbrev pub pairwise : (ℕ → ℕ → ℕ) → Plan → Plan → Plan
+pairwise make a b task core = make (a task core) (b task core)
+
+pub lower-settled : (from to : ℕ) → min from (min from to) ≡ min from to
+lower-settled from to = omega arith
+
+pub raise-settled : (from to : ℕ) → from ≡ from
+raise-settled from to = refl
 
 -- to is as large as from, and can be given every capacity and a need at every pair
 pub record Roomy (from to : Meaning) : Type 0 where
@@ -45,6 +52,7 @@ pub record Holds (from to : Meaning) : Type 0 where
   pub within : (task core : ℕ) → from.held task core ≤ to.need task core
   pub room : (core : ℕ) → core < to.cores → given to.tasks from.held core ≤ to.capacity core
 
--- from holds no less than to at any pair
-abbrev pub Above : Meaning → Meaning → Type 0
-Above from to = (task core : ℕ) → to.held task core ≤ from.held task core
+-- the slots of to can go over to those of the plan, pair by pair: no need and no capacity is in the way
+pub record Reachable (plan : Plan) (to : Meaning) : Type 0 where
+  pub within : (task core : ℕ) → plan task core ≤ to.need task core
+  pub room : (core : ℕ) → core < to.cores → given to.tasks (pairwise max plan to.held) core ≤ to.capacity core

@@ -1,21 +1,18 @@
 // Levels a board of any build on a table of its own.
 #![tactic(auto)]
 
-ghost use Rattle.std.specs.Prelude.{◌≡◌, ℕ, ◌+◌, ◌<◌};
+ghost use Rattle.std.specs.Prelude.{◌≡◌, ℕ, ◌+◌, ◌<◌, min};
 ghost use Rattle.board.specs.Meaning.{Meaning, planned};
 ghost use Rattle.board.specs.Boards.{Good, Went};
 ghost use Rattle.board.specs.Outcomes.{after, set_held};
-ghost use Rattle.table_levelling.specs.Copies.{row_to, tasks_to, lesser, ordered, Roomy, Holds, Above};
+ghost use Rattle.table_levelling.specs.Copies.{row_to, tasks_to, pairwise, lower-settled, raise-settled, ordered, Roomy, Holds, Reachable};
 ghost use Rattle.levelling.specs.Levelled.{FairestOn};
 ghost use Rattle.board.specs.Meaning.{SameOrder};
 
 use board::Board;
 use levelling::level;
 use rules::Rule;
-use table_board::TableBoard;
-
-// The numbers that a table of 64 tasks and 16 cores takes.
-const TABLE_NUMBERS: usize = 2064;
+use table_board::{MOST_NUMBERS, TableBoard};
 
 // Gives each core of the clear board `to` the capacity that it has on `from`.
 fn copy_capacities<A: Board, B: Board>(from: &A, to: &mut B)
@@ -60,69 +57,81 @@ fn copy_needs<A: Board, B: Board>(from: &A, to: &mut B)
     }
 }
 
-// Sets the slots of a pair. Where they are so already nothing is asked of the board, since a set call adds up the core's slots.
-fn set_slots<B: Board>(board: &mut B, task: usize, core: usize, held: u16)
-    requires { Good B.build board.old }
-    ensures went { Went B.build board.old board.new }
-    ensures left { B.build.meaning board.new ≡ after (B.build.meaning board.old) (set_held (B.build.meaning board.old) task core held) }
-{
-    if board.held(task, core) != held {
-        let _ = board.set_held(task, core, held);
+// What the slots of a pair become, of those that it has on the one board and on the other.
+trait Change {
+    ghost changed: { ℕ → ℕ → ℕ };
+
+    fn changed(from: u16, to: u16) -> u16
+        ensures { result ≡ changed from to };
+
+    // A pair that was changed stays as it is.
+    ghost settled: { (from to : ℕ) → changed from (changed from to) ≡ changed from to };
+}
+
+// Slots fall to those on `from` where they are more.
+struct Lower;
+
+impl Change for Lower {
+    ghost changed = { min };
+
+    ghost settled = { lower-settled };
+
+    fn changed(from: u16, to: u16) -> u16 {
+        from.min(to)
     }
 }
 
-// Takes from a task on `to` what it holds there above what it holds on `from`.
-fn lower_task<A: Board, B: Board>(from: &A, to: &mut B, task: usize)
+// Slots become those on `from`.
+struct Raise;
+
+impl Change for Raise {
+    ghost changed = { λ from _. from };
+
+    ghost settled = { raise-settled };
+
+    fn changed(from: u16, _to: u16) -> u16 {
+        from
+    }
+}
+
+// Changes the slots of a pair on `to`. Where they stay nothing is asked of the board, since a set call adds up the core's slots.
+fn change_pair<A: Board, B: Board, C: Change>(from: &A, to: &mut B, task: usize, core: usize)
+    requires from { Good A.build from.now }
+    requires to { Good B.build to.old }
+    ensures went { Went B.build to.old to.new }
+    ensures changed { B.build.meaning to.new ≡ after (B.build.meaning to.old) (set_held (B.build.meaning to.old) task core (pairwise C.changed (A.build.meaning from.now).held (B.build.meaning to.old).held task core)) }
+{
+    let held = to.held(task, core);
+    let amount = C::changed(from.held(task, core), held);
+    if amount != held {
+        let _ = to.set_held(task, core, amount);
+    }
+}
+
+// Changes what a task holds on `to`.
+fn change_task<A: Board, B: Board, C: Change>(from: &A, to: &mut B, task: usize)
     requires from { Good A.build from.now }
     requires to { Good B.build to.old }
     requires task { task < (B.build.meaning to.old).tasks }
+    requires reach { Reachable (pairwise C.changed (A.build.meaning from.now).held (B.build.meaning to.old).held) (B.build.meaning to.old) }
     ensures went { Went B.build to.old to.new }
-    ensures lowered { B.build.meaning to.new ≡ planned (B.build.meaning to.old) (row_to (lesser (A.build.meaning from.now).held (B.build.meaning to.old).held) (B.build.meaning to.old).held task (B.build.meaning to.old).cores) }
+    ensures changed { B.build.meaning to.new ≡ planned (B.build.meaning to.old) (row_to (pairwise C.changed (A.build.meaning from.now).held (B.build.meaning to.old).held) (B.build.meaning to.old).held task (B.build.meaning to.old).cores) }
 {
     for core in 0..to.cores() {
-        let least = from.held(task, core).min(to.held(task, core));
-        set_slots(to, task, core, least);
+        change_pair::<A, B, C>(from, to, task, core);
     }
 }
 
-// Takes from each task on `to` what it holds there above what it holds on `from`.
-fn lower_slots<A: Board, B: Board>(from: &A, to: &mut B)
+// Changes what each task holds on `to`.
+fn change_slots<A: Board, B: Board, C: Change>(from: &A, to: &mut B)
     requires from { Good A.build from.now }
     requires to { Good B.build to.old }
+    requires reach { Reachable (pairwise C.changed (A.build.meaning from.now).held (B.build.meaning to.old).held) (B.build.meaning to.old) }
     ensures went { Went B.build to.old to.new }
-    ensures lowered { B.build.meaning to.new ≡ planned (B.build.meaning to.old) (lesser (A.build.meaning from.now).held (B.build.meaning to.old).held) }
+    ensures changed { B.build.meaning to.new ≡ planned (B.build.meaning to.old) (pairwise C.changed (A.build.meaning from.now).held (B.build.meaning to.old).held) }
 {
     for task in 0..to.tasks() {
-        lower_task(from, to, task);
-    }
-}
-
-// Gives a task on `to`, which holds no more there, the slots that it holds on `from`.
-fn raise_task<A: Board, B: Board>(from: &A, to: &mut B, task: usize)
-    requires from { Good A.build from.now }
-    requires to { Good B.build to.old }
-    requires task { task < (B.build.meaning to.old).tasks }
-    requires holds { Holds (A.build.meaning from.now) (B.build.meaning to.old) }
-    requires above { Above (A.build.meaning from.now) (B.build.meaning to.old) }
-    ensures went { Went B.build to.old to.new }
-    ensures raised { B.build.meaning to.new ≡ planned (B.build.meaning to.old) (row_to (A.build.meaning from.now).held (B.build.meaning to.old).held task (B.build.meaning to.old).cores) }
-{
-    for core in 0..to.cores() {
-        set_slots(to, task, core, from.held(task, core));
-    }
-}
-
-// Gives each task on `to`, none of which holds more there, the slots that it holds on `from`.
-fn raise_slots<A: Board, B: Board>(from: &A, to: &mut B)
-    requires from { Good A.build from.now }
-    requires to { Good B.build to.old }
-    requires holds { Holds (A.build.meaning from.now) (B.build.meaning to.old) }
-    requires above { Above (A.build.meaning from.now) (B.build.meaning to.old) }
-    ensures went { Went B.build to.old to.new }
-    ensures raised { B.build.meaning to.new ≡ planned (B.build.meaning to.old) (A.build.meaning from.now).held }
-{
-    for task in 0..to.tasks() {
-        raise_task(from, to, task);
+        change_task::<A, B, C>(from, to, task);
     }
 }
 
@@ -134,8 +143,8 @@ fn bring_slots<A: Board, B: Board>(from: &A, to: &mut B)
     ensures went { Went B.build to.old to.new }
     ensures brought { B.build.meaning to.new ≡ planned (B.build.meaning to.old) (A.build.meaning from.now).held }
 {
-    lower_slots(from, to);
-    raise_slots(from, to);
+    change_slots::<A, B, Lower>(from, to);
+    change_slots::<A, B, Raise>(from, to);
 }
 
 // Makes the plan on the board fairest. It is levelled on a table, where each number is found at once, and its slots are brought back.
@@ -145,7 +154,7 @@ pub fn level_on_table<B: Board, R: Rule>(board: &mut B, rule: R)
     ensures order { SameOrder (B.build.meaning board.old) (B.build.meaning board.new) }
     ensures fairest { FairestOn (R.order rule) (B.build.meaning board.new) }
 {
-    let mut cells = [0; TABLE_NUMBERS];
+    let mut cells = [0; MOST_NUMBERS];
     let mut table = TableBoard::make(board.tasks(), board.cores(), &mut cells);
     copy_capacities(board, &mut table);
     copy_needs(board, &mut table);

@@ -2,65 +2,37 @@ use Rattle.std.proofs.Common.{◌≡◌, ℕ, ◌+◌, ◌-◌, ◌<◌, ◌≤�
 use Rattle.std.proofs.lemmas.List.{drop-set-lt}
 use Rattle.board.specs.Meaning.{Meaning, pair_count, needed, with_need}
 use Rattle.board.proofs.Bounds.{needed-one, needed-none}
-use Rattle.board.proofs.Passed.{need-passed, stays, need-changes}
+use Rattle.board.proofs.Passed.{need-passed, need-changes}
 use Rattle.pair_board.specs.declared.PairBoard.{PairBoard}
+use Rattle.pair_board.specs.Entries.{Absent}
 use Rattle.pair_board.specs.Pairs.{pairs_of, taken, pair_build}
 use Rattle.pair_board.proofs.Lookups.{absent_none}
 use Rattle.pair_board.proofs.Steps.{need-there, need-changed, need-changed-serving, pair-removed, pair-removed-serving, pair-added, pair-added-serving, need-stands, recounted, room-left, in_list}
 use Rattle.pair_board.proofs.PairBoardBoard.set_need.Goals as goal
 
-pub returns-in_err-test_need : goal.returns-in_err-test_need
-returns-in_err-test_need c =
-    stays pair_build _ _ _ _ c.requires c.in_err-test_need.ensures c.from_residual.ensures.1
-
-pub bounds-self-next : goal.bounds-self-next
-bounds-self-next c =
+pub bounds-self-self : goal.bounds-self-self
+bounds-self-self c =
     let b : PairBoard = c.args.self.now in
     let m : Meaning = pairs_of b in
     let p = need-passed m c.args.task c.args.core c.args.need c.in_ok-test_need.ensures in
-    let none = absent_none (λ entry. entry.need) b.entries.now b.used c.args.task c.args.core c.in-None.ensures in
-    omega (arith, c.requires.serves.counted, room-left c.args.need (m.need c.args.task c.args.core) m.greatest_pairs (pair_count m) p.room c.if-need-gt0-2.true none)
-
--- the pair's entry gets the new need
-pub returns-then-need-gt0 : goal.returns-then-need-gt0
-returns-then-need-gt0 c =
-    let b : PairBoard = c.args.self.now in
-    let m : Meaning = pairs_of b in
-    let entries = b.entries.now in
-    let task = c.args.task in
-    let core = c.args.core in
-    let here = c.in-Some.at in
-    let found = c.in-Some.ensures in
-    let serves = c.requires.serves in
-    let p = need-passed m task core c.args.need c.in_ok-test_need.ensures in
-    let inside = in_list b c.requires in
-    let fits : b.used ≤ length entries = omega (arith, inside) in
-    let left = need-changed b.tasks b.cores b.used b.capacities entries serves.serving fits task core here found c.args.need c.if-need-gt0.true in
-    let was : needed (m.need task core) ≡ 1 =
-    needed-one _ (omega (arith, serves.serving.some here found.0, need-there b.tasks b.cores b.used b.capacities entries serves.serving fits task core here found c.args.need)) in
-    let count = recounted m _ task core c.args.need p.on_tasks p.on_cores left in
-    need-changes pair_build b _ task core c.args.need c.requires c.in_ok-test_need.ensures left
-    (record {
-      sixteen = serves.sixteen;
-      counted = omega (arith, serves.counted, count, was, needed-one c.args.need c.if-need-gt0.true);
-      serving = need-changed-serving b.tasks b.cores b.used b.capacities entries serves.serving fits task core here found c.args.need c.if-need-gt0.true;
-    })
-    (record { whose = refl; past = drop-set-lt (taken b) entries here _ (omega (arith, inside, found.0)); same_length = length-set entries here _; same_tasks = refl; same_cores = refl })
+    let absent : Absent b.entries.now b.used c.args.task c.args.core = rw c.in-None-default.is-0 at c.find.ensures in
+    let none = absent_none (λ entry. entry.need) b.entries.now b.used c.args.task c.args.core absent in
+    omega (arith, c.requires.serves.counted, room-left c.args.need (m.need c.args.task c.args.core) m.greatest_pairs (pair_count m) p.room (omega arith) none)
 
 -- the pair's entry is taken out
-pub returns-else-need-gt0 : goal.returns-else-need-gt0
-returns-else-need-gt0 c =
+pub returns-in-Some-eq0 : goal.returns-in-Some-eq0
+returns-in-Some-eq0 c =
     let b : PairBoard = c.args.self.now in
     let m : Meaning = pairs_of b in
     let entries = b.entries.now in
     let task = c.args.task in
     let core = c.args.core in
-    let here = c.in-Some.at in
+    let here = c.in-Some-eq0.at in
     let last : ℕ = b.used - 1 in
-    let found = c.in-Some.ensures in
+    let found = c.in-Some-eq0.ensures in
     let serves = c.requires.serves in
     let p = need-passed m task core c.args.need c.in_ok-test_need.ensures in
-    let zero : c.args.need ≡ 0 = omega (arith, c.if-need-gt0.false) in
+    let zero : c.args.need ≡ 0 = omega arith in
     let inside = in_list b c.requires in
     let fits : b.used ≤ length entries = omega (arith, inside) in
     let is_last : last + 1 ≡ b.used = omega (arith, found.0) in
@@ -77,17 +49,44 @@ returns-else-need-gt0 c =
     })
     (record { whose = refl; past = drop-set-lt (taken b) entries here _ (omega (arith, inside, found.0)); same_length = length-set entries here _; same_tasks = refl; same_cores = refl })
 
--- a new pair gets the next entry
-pub returns-then-need-gt0-2 : goal.returns-then-need-gt0-2
-returns-then-need-gt0-2 c =
+-- the pair's entry gets the new need
+pub returns-in-Some-default : goal.returns-in-Some-default
+returns-in-Some-default c =
     let b : PairBoard = c.args.self.now in
     let m : Meaning = pairs_of b in
     let entries = b.entries.now in
     let task = c.args.task in
     let core = c.args.core in
-    let absent = c.in-None.ensures in
+    let here = c.in-Some-default.at in
+    let found = c.in-Some-default.ensures in
     let serves = c.requires.serves in
-    let some = c.if-need-gt0-2.true in
+    let some : 0 < c.args.need = omega arith in
+    let p = need-passed m task core c.args.need c.in_ok-test_need.ensures in
+    let inside = in_list b c.requires in
+    let fits : b.used ≤ length entries = omega (arith, inside) in
+    let left = need-changed b.tasks b.cores b.used b.capacities entries serves.serving fits task core here found c.args.need some in
+    let was : needed (m.need task core) ≡ 1 =
+    needed-one _ (omega (arith, serves.serving.some here found.0, need-there b.tasks b.cores b.used b.capacities entries serves.serving fits task core here found c.args.need)) in
+    let count = recounted m _ task core c.args.need p.on_tasks p.on_cores left in
+    need-changes pair_build b _ task core c.args.need c.requires c.in_ok-test_need.ensures left
+    (record {
+      sixteen = serves.sixteen;
+      counted = omega (arith, serves.counted, count, was, needed-one c.args.need some);
+      serving = need-changed-serving b.tasks b.cores b.used b.capacities entries serves.serving fits task core here found c.args.need some;
+    })
+    (record { whose = refl; past = drop-set-lt (taken b) entries here _ (omega (arith, inside, found.0)); same_length = length-set entries here _; same_tasks = refl; same_cores = refl })
+
+-- a new pair gets the next entry
+pub returns-in-None-default : goal.returns-in-None-default
+returns-in-None-default c =
+    let b : PairBoard = c.args.self.now in
+    let m : Meaning = pairs_of b in
+    let entries = b.entries.now in
+    let task = c.args.task in
+    let core = c.args.core in
+    let absent : Absent entries b.used task core = rw c.in-None-default.is-0 at c.find.ensures in
+    let serves = c.requires.serves in
+    let some : 0 < c.args.need = omega arith in
     let p = need-passed m task core c.args.need c.in_ok-test_need.ensures in
     let none = absent_none (λ entry. entry.need) entries b.used task core absent in
     let more = room-left c.args.need (m.need task core) m.greatest_pairs (pair_count m) p.room some none in
@@ -105,10 +104,11 @@ returns-then-need-gt0-2 c =
     (record { whose = refl; past = drop-set-lt (taken b) entries b.used _ room; same_length = length-set entries b.used _; same_tasks = refl; same_cores = refl })
 
 -- a pair without a need is to have none
-pub returns-else-need-gt0-2 : goal.returns-else-need-gt0-2
-returns-else-need-gt0-2 c =
+pub returns-in-None-eq0 : goal.returns-in-None-eq0
+returns-in-None-eq0 c =
     let b : PairBoard = c.args.self.now in
-    let none = absent_none (λ entry. entry.need) b.entries.now b.used c.args.task c.args.core c.in-None.ensures in
+    let absent : Absent b.entries.now b.used c.args.task c.args.core = rw c.in-None-eq0.is-0 at c.find.ensures in
+    let none = absent_none (λ entry. entry.need) b.entries.now b.used c.args.task c.args.core absent in
     need-changes pair_build b b c.args.task c.args.core c.args.need c.requires c.in_ok-test_need.ensures
-    (need-stands (pairs_of b) c.args.task c.args.core c.args.need (omega (arith, none, c.if-need-gt0-2.false)))
+    (need-stands (pairs_of b) c.args.task c.args.core c.args.need (omega (arith, none)))
     c.requires.serves (pair_build.keeping.same b)

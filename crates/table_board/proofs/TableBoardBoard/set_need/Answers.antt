@@ -1,26 +1,16 @@
 use Rattle.std.proofs.Common.{refl, arith, length-set, drop-set-lt}
-use Rattle.std.proofs.lemmas.Nat.{mul-add-lt}
-use Rattle.board.proofs.Passed.{need-passed, stays, need-changes}
+use Rattle.board.proofs.Passed.{need-passed, need-changes}
 use Rattle.table_board.specs.declared.TableBoard.{TableBoard}
 use Rattle.table_board.specs.Table.{table_of, taken, table_build}
 use Rattle.table_board.proofs.Writes.{need-written}
 use Rattle.table_board.proofs.TableBoardBoard.set_need.Goals as goal
 
-pub returns-in_err-test_need : goal.returns-in_err-test_need
-returns-in_err-test_need c =
-    stays table_build _ _ _ _ c.requires c.in_err-test_need.ensures c.from_residual.ensures.1
-
-pub bounds-self-at : goal.bounds-self-at
-bounds-self-at c =
-    let b : TableBoard = c.args.self.now in
-    let p = need-passed (table_of b) c.args.task c.args.core c.args.need c.in_ok-test_need.ensures in
-    omega (arith, p.on_tasks, p.on_cores, c.requires.serves, mul-add-lt c.args.task b.cores c.args.core b.tasks p.on_tasks p.on_cores)
-
 pub returns : goal.returns
 returns c =
     let b : TableBoard = c.args.self.now in
     let p = need-passed (table_of b) c.args.task c.args.core c.args.need c.in_ok-test_need.ensures in
+    let at = c.need_place-at.ensures in
     need-changes table_build b _ c.args.task c.args.core c.args.need c.requires c.in_ok-test_need.ensures
-    (need-written b.tasks b.cores b.cells.now c.args.task c.args.core c.args.need p.on_tasks p.on_cores c.requires.serves)
+    (need-written b.tasks b.cores b.cells.now c.args.task c.args.core _ c.args.need p.on_tasks p.on_cores c.requires.serves at.place at.inside)
     (simp length-set c.requires.serves)
-    (record { whose = refl; past = drop-set-lt (taken b) b.cells.now _ c.args.need (omega (arith, p.on_tasks, p.on_cores, c.requires.serves, mul-add-lt c.args.task b.cores c.args.core b.tasks p.on_tasks p.on_cores)); same_tasks = refl; same_cores = refl })
+    (record { whose = refl; past = drop-set-lt (taken b) b.cells.now _ c.args.need (omega arith); same_tasks = refl; same_cores = refl })

@@ -1,12 +1,12 @@
 use Rattle.std.proofs.Common.{◌≡◌}
 use Rattle.board.specs.Meaning.{Meaning, planned}
 use Rattle.board.specs.Boards.{Went}
-use Rattle.table_levelling.specs.Copies.{row_to}
-use Rattle.table_levelling.proofs.raise_task.Given as goal
+use Rattle.table_levelling.specs.Copies.{row_to, pairwise}
+use Rattle.table_levelling.proofs.change_task.Given as goal
 
 abbrev pub invariant-loop-core : goal.invariant-loop-core
 invariant-loop-core g l =
     let from : Meaning = g.A.Board.build.meaning l.from in
     let b = g.B.Board in
     let old : Meaning = b.build.meaning l.initial.to in
-    Went b.build l.initial.to l.to × (b.build.meaning l.to ≡ planned old (row_to from.held old.held l.task l.core))
+    Went b.build l.initial.to l.to × (b.build.meaning l.to ≡ planned old (row_to (pairwise g.C.Change.changed from.held old.held) old.held l.task l.core))

@@ -1,7 +1,0 @@
-use Rattle.std.proofs.Common.{arith}
-use Rattle.std.proofs.lemmas.Nat.{mul-add-lt}
-use Rattle.table_board.proofs.TableBoardBoard.need.Goals as goal
-
-pub bounds-self-task : goal.bounds-self-task
-bounds-self-task c =
-    omega (arith, mul-add-lt c.args.task c.args.self.now.cores c.args.core c.args.self.now.tasks (omega arith) (omega arith))

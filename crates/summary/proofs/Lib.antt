@@ -1,2 +1,3 @@
-pub mod Joins
+pub mod Fields
+pub mod Totals
 pub mod Widths

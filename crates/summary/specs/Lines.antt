@@ -1,6 +1,8 @@
 -- The report's lines as bytes: 32 is the blank, 10 the end of a line.
 use Rattle.std.specs.Prelude.{ℕ, zero, suc, ◌+◌, ◌-◌, ◌*◌, ◌/◌, ◌%◌, cond, List, [], ◌∷◌, ◌++◌, length, replicate, codes, decimal, ◌==◌, slice_index}
 use Rattle.fairness.specs.Sums.{sum_to}
+use Rattle.board.specs.declared.fault.Fault.{Fault}
+use Rattle.board.specs.Refusals.{fault_text}
 use Rattle.tasks.specs.Rows.{Row}
 use Rattle.tasks.specs.Table.{name_in}
 
@@ -43,6 +45,6 @@ share_lines rows totals slots free = task_lines rows totals slots (length rows) 
 abbrev pub report_lines : List Row → List ℕ → ℕ → List ℕ
 report_lines rows totals free = task_lines rows totals (slots_of totals (length rows) free) (length rows) ++ free_line free
 
-abbrev pub refusal_line : ℕ → ℕ → ℕ → List ℕ
-refusal_line number layer place =
-    codes "refused " ++ (decimal number ++ (codes " layer " ++ (decimal layer ++ (codes " place " ++ (decimal place ++ 10 ∷ [])))))
+-- the line of a refusal
+abbrev pub refusal_line : Fault → List ℕ
+refusal_line fault = fault_text fault ++ 10 ∷ []

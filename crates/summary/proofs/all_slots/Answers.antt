@@ -1,9 +1,11 @@
-use Rattle.std.proofs.Common.{◌^◌, ◌<◌, get_or, arith, rules}
-use Rattle.fairness.proofs.Sums.{sum_more}
+use Rattle.std.proofs.Common.{◌≡◌, ◌≤◌, ◌*◌, ◌^◌, sum, length, mul-le-mul_right, arith, rules}
+use Rattle.std.proofs.lemmas.List.Elements.{All-from_get_or}
+use Rattle.std.proofs.lemmas.List.Sums.{sum_by-le}
 use Rattle.summary.proofs.all_slots.Goals as goal
 
-pub loop-task-preserved : goal.loop-task-preserved
-loop-task-preserved c =
-    let more = sum_more c.loop-task.task (λ task. get_or c.args.totals.now task 0) in
-    let small : get_or c.args.totals.now c.loop-task.task 0 < 2 ^ 32 = search rules in
-    (omega (arith, c.loop-task.invariant.0, more), omega (arith, c.loop-task.invariant.1))
+pub overflow_add-result : goal.overflow_add-result
+overflow_add-result c =
+    let totals = c.args.totals.now in
+    let most : sum totals ≤ length totals * (2 ^ 32) = sum_by-le (λ total. total) (2 ^ 32) totals (All-from_get_or (λ total. total ≤ 2 ^ 32) totals 0 (λ i l. omega (arith, c.type_inv.totals i))) in
+    let all : c.sum.result ≡ sum totals = search rules in
+    omega (arith, mul-le-mul_right (2 ^ 32) c.requires)

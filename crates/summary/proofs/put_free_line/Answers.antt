@@ -1,11 +1,6 @@
-use Rattle.std.proofs.Common.{[], ◌∷◌, ◌++◌, vec_items, codes, decimal, ap, ◌∙◌}
-use Rattle.summary.specs.Lines.{left_in, right_in}
-use Rattle.summary.proofs.Joins.{joined}
+use Rattle.std.proofs.Common.{codes, decimal, arith}
+use Rattle.summary.proofs.Fields.{left-field, number-field, free-ascii}
 use Rattle.summary.proofs.put_free_line.Goals as goal
 
 pub returns : goal.returns
-returns c =
-    joined (vec_items c.args.out.now) (vec_items c.put_left.new.out) (left_in 12 (codes "free")) (right_in 6 (decimal c.args.free) ++ 10 ∷ []) c.in_ok-put_left.ensures
-    (joined (vec_items c.put_left.new.out) (vec_items c.put_right.new.out) (right_in 6 (decimal c.args.free)) (10 ∷ [])
-    (c.in_ok-put_right.ensures ∙ ap (λ t. vec_items c.put_left.new.out ++ right_in 6 t) (c.as_bytes.ensures.value ∙ c.in_ok-number.ensures.ok))
-    c.in_ok-push.ensures.items)
+returns c = rw (c.laid_out.ensures, c.laid_out-2.ensures, left-field 12 (codes "free") free-ascii (omega arith), number-field (decimal c.args.free)) at c.writeln.ensures.bytes

@@ -3,7 +3,7 @@ use Rattle.std.proofs.Common.{◌≡◌, ℕ, zero, suc, ◌+◌, ◌<◌, ◌�
 use lib.ListN.{length-replicate}
 use Rattle.std.proofs.lemmas.Bool.Decides.{nat_tests}
 use Rattle.std.proofs.lemmas.List.{get_or-set_same, get_or-set_other}
-use Rattle.std.proofs.lemmas.Bool.{cases_eq, both_ways}
+use Rattle.std.proofs.lemmas.Bool.{cases_eq, both_ways, false_from_ne_true}
 use Rattle.fairness.specs.Sums.{sum_to}
 use Rattle.fairness.specs.Laws.{Comparison, Lawful}
 use Rattle.fairness.specs.Routes.{should_gain}
@@ -15,7 +15,7 @@ use Rattle.search.specs.Layers.{EarlyOpen, Layered}
 use Rattle.search.specs.Searches.{SweptTo, Spread, Trying, InVain}
 use Rattle.search.specs.Gains.{share_on, gains_from, as_urgent, NoneFreeOn, SafeOn}
 use Rattle.search.proofs.Trails.{flag-more}
-use Rattle.search.proofs.Urgency.{gains-follow, urgent-self, not-true}
+use Rattle.search.proofs.Urgency.{gains-follow, urgent-self}
 use Rattle.search.proofs.Spreads.{swept-on}
 use Rattle.search.proofs.Layers.{early-on, early-now}
 
@@ -99,7 +99,7 @@ module _ (compare : Comparison) (m : Meaning) (p : ℕ) (so : Sound m) (pn : p <
             let w = at q ql f in
             let fails : gains_from compare (share_on m p) (share_on m q) ≡ false = rw w.2 at (y.fails w.0 w.1) in
             let never : should_gain compare (share_on m p) (share_on m q) ≡ false = grind (arith, nat_tests) in
-            not-true _ (λ gains. both_ways _ never (gains-follow compare lawful (share_on m p) (share_on m task) (share_on m q) urgent gains));
+            false_from_ne_true _ (λ gains. both_ways _ never (gains-follow compare lawful (share_on m p) (share_on m task) (share_on m q) urgent gains));
       }
 
   pub trying-all : Lawful compare → (s : Search) (h : ℕ) → Trying compare m p s h → found_count s ≤ h → NoneFreeOn m → InVain compare m p s

@@ -1,33 +1,15 @@
 -- What a task should gain, a more urgent one should gain too; so a search in vain speaks for all tasks that it found.
-use Rattle.std.proofs.Common.{◌≡◌, ℕ, Bool, true, false, ◌&&◌, ◌||◌, ◌⊎◌, List, set, sym, refl, ap, ◌∙◌, subst, inl, inr}
+use Rattle.std.proofs.Common.{◌≡◌, ℕ, Bool, true, false, ◌&&◌, ◌||◌, List, set, sym, refl, ap, ◌∙◌, subst, inl, inr}
 use Rattle.std.specs.declared.cmp.Ordering.{Ordering}
 use Rattle.std.specs.declared.cmp.Ordering.TheVariants.{Less, Equal, Greater}
 use Rattle.std.specs.Ordering.{is_le, is_lt, is_eq, ordering_reverse}
 use Rattle.std.proofs.lemmas.List.{get_or-set_other}
-use Rattle.std.proofs.lemmas.Bool.{cases_eq, both_ways, and_parts}
+use Rattle.std.proofs.lemmas.Bool.{cases_eq, both_ways, and_parts, and_from, or_cases, or_left, or_right, false_from_ne_true}
 use Rattle.fairness.specs.declared.Share.{Share}
 use Rattle.fairness.specs.Laws.{Comparison, Lawful}
 use Rattle.fairness.specs.Routes.{should_gain, risen, fallen}
 use Rattle.board.specs.Meaning.{Meaning}
 use Rattle.search.specs.Gains.{as_urgent, SafeOn, SafeFlags, NoneFreeOn}
-
-or_parts : (a b : Bool) → (a || b) ≡ true → (a ≡ true) ⊎ (b ≡ true)
-or_parts true b h = inl refl
-or_parts false b h = inr h
-
-or_left : (a b : Bool) → a ≡ true → (a || b) ≡ true
-or_left a b e = ap (λ z. z || b) e
-
-or_right : (a b : Bool) → b ≡ true → (a || b) ≡ true
-or_right true b e = refl
-or_right false b e = e
-
-and_both : (a b : Bool) → a ≡ true → b ≡ true → (a && b) ≡ true
-and_both a b e f = ap (λ z. z && b) e ∙ f
-
-pub not-true : (a : Bool) → (a ≡ true → ⊥) → a ≡ false
-not-true true f = absurd (f refl)
-not-true false f = refl
 
 below-mirror : (r : Ordering) → is_lt r ≡ true → is_le (ordering_reverse r) ≡ false
 below-mirror Less h = refl
@@ -59,7 +41,7 @@ module _ (compare : Comparison) (lawful : Lawful compare) where
   not_back a b h = ap is_le (lawful.mirrored a b) ∙ below-mirror (compare a b) h
 
   below-if : (a b : Share) → (is_le (compare b a) ≡ true → ⊥) → is_lt (compare a b) ≡ true
-  below-if a b f = mirror-below (compare a b) (sym (ap is_le (lawful.mirrored a b)) ∙ not-true (is_le (compare b a)) f)
+  below-if a b f = mirror-below (compare a b) (sym (ap is_le (lawful.mirrored a b)) ∙ false_from_ne_true (is_le (compare b a)) f)
 
   below_then : (a b c : Share) → is_lt (compare a b) ≡ true → is_le (compare b c) ≡ true → is_lt (compare a c) ≡ true
   below_then a b c l u = below-if a c (λ h. both_ways _ (not_back a b l) (lawful.transitive b c a u h))
@@ -81,19 +63,19 @@ module _ (compare : Comparison) (lawful : Lawful compare) where
   gains-follow a b l urgent gains =
       let low : Share = fallen l in
       let left : is_lt (compare a low) ≡ true → should_gain compare a l ≡ true = or_left (is_lt (compare a low)) (is_eq (compare a low) && is_lt (compare l (risen a))) in
-      elim (or_parts (is_lt (compare a b)) (is_eq (compare a b) && is_le (compare (risen b) (risen a))) urgent) [
-        | inl lower ↦ elim (or_parts (is_lt (compare b low)) (is_eq (compare b low) && is_lt (compare l (risen b))) gains) [
+      elim (or_cases (is_lt (compare a b)) (is_eq (compare a b) && is_le (compare (risen b) (risen a))) urgent) [
+        | inl lower ↦ elim (or_cases (is_lt (compare b low)) (is_eq (compare b low) && is_lt (compare l (risen b))) gains) [
           | inl below ↦ left (below_then a b low lower (below-most (compare b low) below))
           | inr level ↦ left (below_then a b low lower (level-most (compare b low) (and_parts (is_eq (compare b low)) (is_lt (compare l (risen b))) level).0).0)
         ]
         | inr same ↦
             let even = and_parts (is_eq (compare a b)) (is_le (compare (risen b) (risen a))) same in
-            elim (or_parts (is_lt (compare b low)) (is_eq (compare b low) && is_lt (compare l (risen b))) gains) [
+            elim (or_cases (is_lt (compare b low)) (is_eq (compare b low) && is_lt (compare l (risen b))) gains) [
               | inl below ↦ left (then-below a b low (level-most (compare a b) even.0).0 below)
               | inr level ↦
                   let tie = and_parts (is_eq (compare b low)) (is_lt (compare l (risen b))) level in
                   or_right (is_lt (compare a low)) (is_eq (compare a low) && is_lt (compare l (risen a)))
-                  (and_both (is_eq (compare a low)) (is_lt (compare l (risen a))) (level-then a b low even.0 tie.0) (below_then l (risen b) (risen a) tie.1 even.1))
+                  (and_from (is_eq (compare a low)) (is_lt (compare l (risen a))) (level-then a b low even.0 tie.0) (below_then l (risen b) (risen a) tie.1 even.1))
             ]
       ]
 

@@ -181,7 +181,8 @@ fn as_urgent<R: Rule>(rule: &R, first: Share, second: Share) -> bool
         .is_le()
 }
 
-// The place in the search of the first task found that should lose a slot to the gainer.
+// The place in the search of the first task found that should lose a slot to the gainer. The board and the rule stay parameters
+// here and below: what a board must be is asked at each call, so a struct of the two would leave out no clause.
 fn search_from<B: Board, R: Rule>(
     board: &B,
     rule: &R,

@@ -88,7 +88,7 @@ copied-not file before r fault (Ok order) e d = let z : ◌≡◌ {A = ℕ} 0 1 
 copied-not file before r fault (Err why) e d = (d ∙ e, refl)
 
 pub not-copied : {S : Type 0} {build : Build S} (a b : S) (file : List ℕ) (rs : List Row) (before : List ℕ) (answer r : Result ℕ Fault) (fault : Fault) → LawfullyRead build a b file rs answer → answer ≡ Err fault → r ≡ Err fault → Rewritten build a b file rs before before r
-not-copied {meaning = meaning} a b file rs before answer r fault read e d = record {
+not-copied {build = build} a b file rs before answer r fault read e d = record {
   filled = read.read.left;
   listed = read.read.listed;
   copied = copied-not file before r fault (read_of (build.meaning a) file) (sym e ∙ read.read.told) d;
@@ -102,7 +102,7 @@ copied-so file before after r letter (Ok order) e d f = (d, f)
 copied-so file before after r letter (Err fault) e d f = let z : ◌≡◌ {A = ℕ} 0 1 = cc in absurd (omega arith)
 
 pub so-copied : {S : Type 0} {build : Build S} (a b : S) (file : List ℕ) (rs : List Row) (before after : List ℕ) (answer r : Result ℕ Fault) (letter : ℕ) → LawfullyRead build a b file rs answer → answer ≡ Ok letter → r ≡ told (write_why letter rs (build.meaning b) (length before)) (length (file_of letter rs (build.meaning b))) → after ≡ left (write_why letter rs (build.meaning b) (length before)) (file_of letter rs (build.meaning b)) before → Rewritten build a b file rs before after r
-so-copied {meaning = meaning} a b file rs before after answer r letter read e d f =
+so-copied {build = build} a b file rs before after answer r letter read e d f =
     let order : Order = record { letter = letter; board = build.meaning b; rows = rs } in
     let law : Lawful (build.meaning a) file (Ok order) = subst (λ x. Lawful (build.meaning a) file (gave x (build.meaning b) rs)) e read.lawful in
     let same = sym law.1 in
@@ -134,7 +134,7 @@ writable letter rs first room e =
 
 -- what a board can hold is there once it was read
 pub same-there : {S : Type 0} {build : Build S} → EncodingsRead → (first : Meaning) (letter : ℕ) (rs : List Row) (a b : S) (second-rs : List Row) (r : Result ℕ Fault) → Sound first → Sound (build.meaning a) → sound rs ≡ true → Writable letter rs first → LawfullyRead build a b (file_of letter rs first) second-rs r → CanHold (build.meaning a) first → Same first (build.meaning a) (build.meaning b) letter rs second-rs r
-same-there {meaning = meaning} law first letter rs a b second-rs r here there fine can read holds =
+same-there {build = build} law first letter rs a b second-rs r here there fine can read holds =
     let order : Order = record { letter = letter; board = carried (build.meaning a) first; rows = rs } in
     let valid = carried-valid (build.meaning a) first there here holds letter rs can.known can.some can.listed fine in
     let e : read_of (build.meaning a) (file_of letter rs first) ≡ Ok order = ap (read_of (build.meaning a)) (sym (carried-file (build.meaning a) first holds letter rs)) ∙ law (build.meaning a) order valid in

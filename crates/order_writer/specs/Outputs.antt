@@ -4,7 +4,8 @@ use Rattle.board.specs.Meaning.{Meaning}
 use Rattle.fairness.specs.Plans.{Plan}
 use Rattle.records.specs.declared.kind.Kind.{Kind}
 use Rattle.records.specs.declared.kind.Kind.TheVariants.{Slots}
-use Rattle.orders.specs.Encoding.{Line, bytes_of}
+use Rattle.tasks.specs.Rows.{Row}
+use Rattle.orders.specs.Encoding.{Line, bytes_of, order_lines}
 use Rattle.order_writer.specs.declared.output.Output.{Output}
 use Rattle.order_writer.specs.Writing.{Put}
 
@@ -20,6 +21,10 @@ pub record Continued (before after : Output) (lines : List Line) : Type 0 where
   pub counted : after.records ≡ before.records + length lines
   pub near : after.bytes + 18 * before.records ≤ before.bytes + 18 * after.records
   pub whose : after.out.ghost_name ≡ before.out.ghost_name
+
+-- the lines of an order, but for the end
+abbrev pub lines_of : ℕ → List Row → Meaning → List Line
+lines_of letter rows m = order_lines letter m.cores m.capacity rows m.need m.held
 
 -- so little is written that the numbers of it do not overflow
 pub record Few (most : ℕ) (done : Output) : Type 0 where

@@ -6,9 +6,9 @@ ghost use Rattle.board.specs.Boards.{Good};
 ghost use Rattle.records.specs.declared.kind.Kind.TheVariants.{Core, Task, End};
 ghost use Rattle.records.specs.Wire.{word};
 ghost use Rattle.tasks.specs.Table.{rows};
-ghost use Rattle.orders.specs.Encoding.{line, each, head_line, core_line, task_line, pair_line, task_pairs, pair_lines, order_lines, file_of};
+ghost use Rattle.orders.specs.Encoding.{line, each, head_line, core_line, task_line, pair_line, task_pairs, pair_lines, file_of};
 ghost use Rattle.order_writer.specs.Writing.{write_why, told, left, Put};
-ghost use Rattle.order_writer.specs.Outputs.{Appended, Continued, Few, amounts_of};
+ghost use Rattle.order_writer.specs.Outputs.{Appended, Continued, Few, lines_of, amounts_of};
 
 use board::Board;
 use board::fault::{Fault, Refusal};
@@ -16,8 +16,10 @@ use records::kind::Kind;
 use sections::letter::Sharing;
 use tasks::table::TaskTable;
 
+pub mod order;
 pub mod output;
 
+use order::Order;
 use output::Output;
 
 // Writes the order and answers its length; refused, the output is as it was.
@@ -36,43 +38,50 @@ pub fn write<B: Board>(
         return Err(Refusal::SizesDiffer.at(0));
     }
     // Over no output at all, the same calls count the bytes.
-    let length = put_file(board, tasks, letter, &mut []);
+    let order = Order {
+        board,
+        tasks,
+        letter,
+    };
+    let length = order.put_file(&mut []);
     if out.len() < length {
         return Err(Refusal::OutputTooShort.at(0));
     }
-    Ok(put_file(board, tasks, letter, out))
+    Ok(order.put_file(out))
 }
 
-// The whole file, and its length.
-fn put_file<B: Board>(board: &B, tasks: &TaskTable, letter: u8, out: &mut [u8]) -> usize
-    requires good { Good B.build board.now }
-    requires sizes { length (rows tasks.now) ≡ (B.build.meaning board.now).tasks }
-    ensures { Put out.old out.new 0 result (file_of letter (rows tasks.now) (B.build.meaning board.now)) }
-{
-    let mut output = Output {
-        out,
-        bytes: 0,
-        records: 0,
-    };
-    output.put_order(board, tasks, letter);
-    output.put_end();
-    output.bytes
+impl<B: Board> Order<'_, B> {
+    // The whole file, and its length.
+    fn put_file(&self, out: &mut [u8]) -> usize
+        requires good { Good B.build self.now.board.now }
+        requires sizes { length (rows self.now.tasks.now) ≡ (B.build.meaning self.now.board.now).tasks }
+        ensures { Put out.old out.new 0 result (file_of self.now.letter (rows self.now.tasks.now) (B.build.meaning self.now.board.now)) }
+    {
+        let mut output = Output {
+            out,
+            bytes: 0,
+            records: 0,
+        };
+        output.put_order(self);
+        output.put_end();
+        output.bytes
+    }
 }
 
 impl Output<'_> {
     // All but the end record.
-    fn put_order<B: Board>(&mut self, board: &B, tasks: &TaskTable, letter: u8)
-        requires good { Good B.build board.now }
-        requires sizes { length (rows tasks.now) ≡ (B.build.meaning board.now).tasks }
+    fn put_order<B: Board>(&mut self, order: &Order<'_, B>)
+        requires good { Good B.build order.now.board.now }
+        requires sizes { length (rows order.now.tasks.now) ≡ (B.build.meaning order.now.board.now).tasks }
         requires fresh { Few 0 self.old }
-        ensures lines { Continued self.old self.new (order_lines letter (B.build.meaning board.now).cores (B.build.meaning board.now).capacity (rows tasks.now) (B.build.meaning board.now).need (B.build.meaning board.now).held) }
+        ensures lines { Continued self.old self.new (lines_of order.now.letter (rows order.now.tasks.now) (B.build.meaning order.now.board.now)) }
         ensures few { Few 2129 self.new }
     {
-        self.put_head(board, letter);
-        self.put_cores(board);
-        self.put_tasks(tasks);
-        self.put_pairs(board, Kind::Need);
-        self.put_pairs(board, Kind::Slots);
+        self.put_head(order.board, order.letter);
+        self.put_cores(order.board);
+        self.put_tasks(order.tasks);
+        self.put_pairs(order.board, Kind::Need);
+        self.put_pairs(order.board, Kind::Slots);
     }
 
     fn put_head<B: Board>(&mut self, board: &B, letter: u8)

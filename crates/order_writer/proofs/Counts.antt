@@ -5,8 +5,8 @@ use Rattle.records.specs.declared.kind.Kind.{Kind}
 use Rattle.records.specs.Wire.{word}
 use Rattle.tasks.specs.declared.table.TaskTable.{TaskTable}
 use Rattle.tasks.specs.Table.{rows}
-use Rattle.order_writer.specs.declared.extent.Extent.{Extent}
-use Rattle.order_writer.specs.Writing.{Continued, Few, nothing}
+use Rattle.order_writer.specs.declared.output.Output.{Output}
+use Rattle.order_writer.specs.Outputs.{Continued, Few}
 use Rattle.tasks.proofs.Steps.{rows_few}
 use Rattle.orders.specs.Encoding.{head_line, Line, line, each, core_line, task_line, pair_line, task_pairs, pair_lines}
 
@@ -32,24 +32,24 @@ pub all-pairs-few : (kind : Kind) (tasks cores : ℕ) (amounts : Plan) → cores
 all-pairs-few kind tasks cores amounts few = each-few tasks 16 (task_pairs kind cores amounts) (λ task. omega (arith, pairs-few kind cores amounts task, few))
 
 -- few lines more are still few
-pub few_on : {a b : List ℕ} {from to : Extent} {lines : List Line} (most more all : ℕ) → Few most from → Continued a b from to lines → length lines ≤ more → most + more ≤ all → Few all to
+pub few_on : {from to : Output} {lines : List Line} (most more all : ℕ) → Few most from → Continued from to lines → length lines ≤ more → most + more ≤ all → Few all to
 few_on most more all few done short fit = record {
   bytes = omega (arith, few.bytes, done.near);
   records = omega (arith, few.records, done.counted, short, fit);
 }
 
-pub few-more : {done : Extent} (most all : ℕ) → most ≤ all → Few most done → Few all done
+pub few-more : {done : Output} (most all : ℕ) → most ≤ all → Few most done → Few all done
 few-more most all more few = record { bytes = few.bytes; records = omega (arith, few.records) }
 
-pub after-head : {a b : List ℕ} {to : Extent} (letter tasks cores : ℕ) → Continued a b nothing to (head_line letter tasks cores) → Few 1 to
-after-head letter tasks cores head = few_on 0 1 1 (record { bytes = omega arith; records = omega arith }) head (omega arith) (omega arith)
+pub after-head : {from to : Output} (letter tasks cores : ℕ) → Few 0 from → Continued from to (head_line letter tasks cores) → Few 1 to
+after-head letter tasks cores fresh head = few_on 0 1 1 fresh head (omega arith) (omega arith)
 
-pub after-cores : {a b : List ℕ} {from to : Extent} (cores : ℕ) (capacity : ℕ → ℕ) → cores ≤ 16 → Few 1 from → Continued a b from to (each cores (core_line capacity)) → Few 17 to
+pub after-cores : {from to : Output} (cores : ℕ) (capacity : ℕ → ℕ) → cores ≤ 16 → Few 1 from → Continued from to (each cores (core_line capacity)) → Few 17 to
 after-cores cores capacity few before part = few_on 1 16 17 before part (omega (arith, cores-few cores capacity, few)) (omega arith)
 
-pub after-tasks : {a b : List ℕ} {from to : Extent} (table : TaskTable) → Few 17 from → Continued a b from to (each (length (rows table)) (task_line (rows table))) → Few 81 to
+pub after-tasks : {from to : Output} (table : TaskTable) → Few 17 from → Continued from to (each (length (rows table)) (task_line (rows table))) → Few 81 to
 after-tasks table before part = few_on 17 64 81 before part (omega (arith, tasks-few (length (rows table)) table, rows_few table)) (omega arith)
 
-pub after-pairs : {a b : List ℕ} {from to : Extent} (most : ℕ) (kind : Kind) (tasks cores : ℕ) (amounts : Plan) → tasks ≤ 64 → cores ≤ 16 → Few most from → Continued a b from to (pair_lines kind tasks cores amounts) → Few (most + 1024) to
+pub after-pairs : {from to : Output} (most : ℕ) (kind : Kind) (tasks cores : ℕ) (amounts : Plan) → tasks ≤ 64 → cores ≤ 16 → Few most from → Continued from to (pair_lines kind tasks cores amounts) → Few (most + 1024) to
 after-pairs most kind tasks cores amounts few_tasks few_cores before part =
     few_on most 1024 (most + 1024) before part (omega (arith, all-pairs-few kind tasks cores amounts few_cores, few_tasks)) (omega arith)

@@ -4,10 +4,11 @@ use Rattle.std.proofs.lemmas.List.{take_at, drop_at, drop-drop, length-take-le, 
 use Rattle.records.specs.declared.kind.Kind.{Kind}
 use Rattle.records.specs.declared.kind.Kind.TheVariants.{Head, Core, Task, Need, Slots, End}
 use Rattle.records.specs.Wire.{word, number_of, record_bytes}
-use Rattle.order_writer.specs.declared.extent.Extent.{Extent}
+use Rattle.order_writer.specs.declared.output.Output.{Output}
 use Rattle.orders.specs.Encoding.{Line, line, bytes_of, each}
 use Rattle.orders.proofs.Lines.{bytes-join}
-use Rattle.order_writer.specs.Writing.{pasted, Put, Continued}
+use Rattle.order_writer.specs.Writing.{pasted, Put}
+use Rattle.order_writer.specs.Outputs.{Appended, Continued}
 
 -- a paste behind a paste is one paste
 pub pasted-more : (out : List ℕ) (at : ℕ) (xs ys : List ℕ) → at ≤ length out → pasted (pasted out at xs) (at + length xs) ys ≡ pasted out at (xs ++ ys)
@@ -48,26 +49,28 @@ put_on {a} {b} {c} {at} {mid} {next} {xs} {ys} first second = record {
   size = second.size ∙ first.size;
 }
 
-pub continued-none : (out : List ℕ) (done : Extent) → Continued out out done done []
-continued-none out done = record {
-  bytes = record { onward = sym (add-zero done.bytes); fits = λ _. sym (pasted-none out done.bytes); size = refl };
-  counted = sym (add-zero done.records);
+pub continued-none : (out : Output) → Continued out out []
+continued-none out = record {
+  bytes = record { onward = sym (add-zero out.bytes); fits = λ _. sym (pasted-none out.out.now out.bytes); size = refl };
+  counted = sym (add-zero out.records);
   near = omega arith;
+  whose = refl;
 }
 
-pub continued-on : {a b c : List ℕ} {from mid to : Extent} {xs ys : List Line} → Continued a b from mid xs → Continued b c mid to ys → Continued a c from to (xs ++ ys)
-continued-on {a} {b} {c} {from} {mid} {to} {xs} {ys} first second =
-    let P : List ℕ → Type 0 = λ l. Put a c from.bytes to.bytes l in
+pub continued-on : {a b c : Output} {xs ys : List Line} → Continued a b xs → Continued b c ys → Continued a c (xs ++ ys)
+continued-on {a} {b} {c} {xs} {ys} first second =
+    let P : List ℕ → Type 0 = λ l. Put a.out.now c.out.now a.bytes c.bytes l in
     record {
       bytes = subst P (sym (bytes-join xs ys)) (put_on first.bytes second.bytes);
       counted = omega (arith, first.counted, second.counted, length-append xs ys);
       near = omega (arith, first.near, second.near);
+      whose = second.whose ∙ first.whose;
     }
 
 -- one round more of a loop over numbers
-pub continued-each : {a b c : List ℕ} {from mid to : Extent} (n : ℕ) (lines : ℕ → List Line) → Continued a b from mid (each n lines) → Continued b c mid to (lines n) → Continued a c from to (each (n + 1) lines)
-continued-each {a} {b} {c} {from} {mid} {to} n lines first second =
-    let P : List Line → Type 0 = λ l. Continued a c from to l in
+pub continued-each : {a b c : Output} (n : ℕ) (lines : ℕ → List Line) → Continued a b (each n lines) → Continued b c (lines n) → Continued a c (each (n + 1) lines)
+continued-each {a} {b} {c} n lines first second =
+    let P : List Line → Type 0 = λ l. Continued a c l in
     let more : each (n + 1) lines ≡ each n lines ++ lines n = rw add-one in
     subst P (sym more) (continued-on first second)
 
@@ -95,12 +98,17 @@ line-bytes kind body long number short is-long is_number =
     ∙ (λ i. sym is-long i ∷ 0 ∷ sym is_number i ∷ 0 ∷ body)
 
 -- the head of a line and then the rest of it are the line
-pub line-put : {a b c : List ℕ} {from : Extent} {mid next : ℕ} (kind : Kind) (body front rest : List ℕ) → bytes_of (line kind body ∷ []) ≡ front ++ rest → length body ≤ 14 → Put a b from.bytes mid front → Put b c mid next rest → Continued a c from (record { bytes = next; records = from.records + 1 }) (line kind body ∷ [])
-line-put {a} {b} {c} {from} {mid} {next} kind body front rest same short first second =
-    let P : List ℕ → Type 0 = λ l. Put a c from.bytes next l in
-    let whole = subst P (sym same) (put_on first second) in
+pub line-put : {a b c : Output} (kind : Kind) (body front rest : List ℕ) → bytes_of (line kind body ∷ []) ≡ front ++ rest → length body ≤ 14 → Appended a b front → Appended b c rest → Continued a (record { out = c.out; bytes = c.bytes; records = c.records + 1 }) (line kind body ∷ [])
+line-put {a} {b} {c} kind body front rest same short first second =
+    let P : List ℕ → Type 0 = λ l. Put a.out.now c.out.now a.bytes c.bytes l in
+    let whole = subst P (sym same) (put_on first.put second.put) in
     record {
       bytes = whole;
-      counted = refl;
-      near = omega (arith, whole.onward, ap length (append-nil (record_bytes kind body)), short);
+      counted = omega (arith, first.records, second.records);
+      near = omega (arith, first.records, second.records, whole.onward, ap length (append-nil (record_bytes kind body)), short);
+      whose = second.whose ∙ first.whose;
     }
+
+-- what was put through an output stands where the output lies
+pub put-there : {before after there : List ℕ} {next : ℕ} {bytes : List ℕ} → after ≡ there → Put before there 0 next bytes → Put before after 0 next bytes
+put-there {before} {after} {there} {next} {bytes} same put = let P : List ℕ → Type 0 = λ l. Put before l 0 next bytes in subst P (sym same) put

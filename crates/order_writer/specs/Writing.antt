@@ -1,18 +1,14 @@
 -- What writing answers, and what it leaves in the output.
-use Rattle.std.specs.Prelude.{◌≡◌, ℕ, ◌+◌, ◌*◌, ◌≤◌, cond, not, ◌||◌, List, ◌++◌, length, take, drop, Some, None, Ok, Err, Option, Result, ◌==◌, nat_lt}
+use Rattle.std.specs.Prelude.{◌≡◌, ℕ, ◌+◌, ◌≤◌, cond, not, ◌||◌, List, ◌++◌, length, take, drop, Some, None, Ok, Err, Option, Result, ◌==◌, nat_lt}
 use Rattle.board.specs.declared.fault.Refusal.{Refusal}
 use Rattle.board.specs.declared.fault.Refusal.TheVariants.{ValueOutOfBounds, SizesDiffer, OutputTooShort}
 use Rattle.board.specs.declared.fault.Fault.{Fault}
 use Rattle.board.specs.Refusals.{fault_at}
 use Rattle.board.specs.Meaning.{Meaning}
-use Rattle.fairness.specs.Plans.{Plan}
-use Rattle.records.specs.declared.kind.Kind.{Kind}
-use Rattle.records.specs.declared.kind.Kind.TheVariants.{Head, Core, Task, Need, Slots, End}
 use Rattle.sections.specs.declared.letter.Sharing.{Sharing}
 use Rattle.sections.specs.Letters.{sharing_of}
 use Rattle.tasks.specs.Rows.{Row}
-use Rattle.order_writer.specs.declared.extent.Extent.{Extent}
-use Rattle.orders.specs.Encoding.{Line, bytes_of, file_of}
+use Rattle.orders.specs.Encoding.{file_of}
 
 abbrev pub lettered : Option Sharing → Option Refusal → Option Refusal
 lettered None later = Some ValueOutOfBounds
@@ -51,26 +47,3 @@ pub record Put (before after : List ℕ) (at next : ℕ) (bytes : List ℕ) : Ty
   pub onward : next ≡ at + length bytes
   pub fits : next ≤ length before → after ≡ pasted before at bytes
   pub size : length after ≡ length before
-
--- lines that continue what is written; none has more than 18 bytes
-pub record Continued (before after : List ℕ) (from to : Extent) (lines : List Line) : Type 0 where
-  pub bytes : Put before after from.bytes to.bytes (bytes_of lines)
-  pub counted : to.records ≡ from.records + length lines
-  pub near : to.bytes + 18 * from.records ≤ from.bytes + 18 * to.records
-
--- so little is written that the numbers of it do not overflow
-pub record Few (most : ℕ) (done : Extent) : Type 0 where
-  pub bytes : done.bytes ≤ 18 * done.records
-  pub records : done.records ≤ most
-
-abbrev pub nothing : Extent
-nothing = record { bytes = 0; records = 0 }
-
--- the amounts that the lines of a kind tell: slots held, or needs
-abbrev pub amounts_of : Kind → Meaning → Plan
-amounts_of Head m = m.need
-amounts_of Core m = m.need
-amounts_of Task m = m.need
-amounts_of Need m = m.need
-amounts_of Slots m = m.held
-amounts_of End m = m.need

@@ -4,20 +4,23 @@
 ghost use Rattle.std.specs.Prelude.{◌≡◌, ◌^◌, ◌<◌, ◌≤◌, [], ◌∷◌, length};
 ghost use Rattle.board.specs.Boards.{Good};
 ghost use Rattle.records.specs.declared.kind.Kind.TheVariants.{Core, Task, End};
-ghost use Rattle.records.specs.Wire.{word, number_of};
+ghost use Rattle.records.specs.Wire.{word};
 ghost use Rattle.tasks.specs.Table.{rows};
-ghost use Rattle.orders.specs.Encoding.{line, each, head_line, core_line, task_line, pair_line, task_pairs, pair_lines, order_lines, file_of};
-ghost use Rattle.order_writer.specs.Writing.{write_why, told, left, Put, Continued, Few, nothing, amounts_of};
+ghost use Rattle.orders.specs.Encoding.{line, each, head_line, core_line, task_line, pair_line, task_pairs, pair_lines, file_of};
+ghost use Rattle.order_writer.specs.Writing.{write_why, told, left, Put};
+ghost use Rattle.order_writer.specs.Outputs.{Appended, Continued, Few, lines_of, amounts_of};
 
 use board::Board;
 use board::fault::{Fault, Refusal};
 use records::kind::Kind;
-use sections::letter::sharing_of;
+use sections::letter::Sharing;
 use tasks::table::TaskTable;
 
-pub mod extent;
+pub mod order;
+pub mod output;
 
-use extent::Extent;
+use order::Order;
+use output::Output;
 
 // Writes the order and answers its length; refused, the output is as it was.
 pub fn write<B: Board>(
@@ -30,147 +33,176 @@ pub fn write<B: Board>(
     ensures told { result ≡ told (write_why letter (rows tasks.now) (B.build.meaning board.now) (length out.old)) (length (file_of letter (rows tasks.now) (B.build.meaning board.now))) }
     ensures left { out.new ≡ left (write_why letter (rows tasks.now) (B.build.meaning board.now) (length out.old)) (file_of letter (rows tasks.now) (B.build.meaning board.now)) out.old }
 {
-    let Some(_) = sharing_of(letter) else {
-        return Err(Refusal::ValueOutOfBounds.at(0));
-    };
+    Sharing::try_from(letter).map_err(|refusal| refusal.at(0))?;
     if tasks.len() != board.tasks() || board.tasks() == 0 {
         return Err(Refusal::SizesDiffer.at(0));
     }
     // Over no output at all, the same calls count the bytes.
-    let length = put_file(board, tasks, letter, &mut []);
+    let order = Order {
+        board,
+        tasks,
+        letter,
+    };
+    let length = order.put_file(&mut []);
     if out.len() < length {
         return Err(Refusal::OutputTooShort.at(0));
     }
-    Ok(put_file(board, tasks, letter, out))
+    Ok(order.put_file(out))
 }
 
-// The whole file, and its length.
-fn put_file<B: Board>(board: &B, tasks: &TaskTable, letter: u8, out: &mut [u8]) -> usize
-    requires good { Good B.build board.now }
-    requires sizes { length (rows tasks.now) ≡ (B.build.meaning board.now).tasks }
-    ensures { Put out.old out.new 0 result (file_of letter (rows tasks.now) (B.build.meaning board.now)) }
-{
-    let done = put_order(board, tasks, letter, out);
-    put_end(out, done, done.records as u16).bytes
-}
-
-// All but the end record.
-fn put_order<B: Board>(board: &B, tasks: &TaskTable, letter: u8, out: &mut [u8]) -> Extent
-    requires good { Good B.build board.now }
-    requires sizes { length (rows tasks.now) ≡ (B.build.meaning board.now).tasks }
-    ensures lines { Continued out.old out.new nothing result (order_lines letter (B.build.meaning board.now).cores (B.build.meaning board.now).capacity (rows tasks.now) (B.build.meaning board.now).need (B.build.meaning board.now).held) }
-    ensures few { Few 2129 result }
-{
-    let head = put_head(board, letter, out);
-    let cores = put_cores(board, out, head);
-    let named = put_tasks(tasks, out, cores);
-    let needs = put_pairs(board, Kind::Need, out, named);
-    put_pairs(board, Kind::Slots, out, needs)
-}
-
-fn put_head<B: Board>(board: &B, letter: u8, out: &mut [u8]) -> Extent
-    requires { Good B.build board.now }
-    ensures { Continued out.old out.new nothing result (head_line letter (B.build.meaning board.now).tasks (B.build.meaning board.now).cores) }
-{
-    let start = Extent {
-        bytes: 0,
-        records: 0,
-    };
-    put_record(
-        out,
-        start,
-        Kind::Head,
-        &[letter, board.tasks() as u8, board.cores() as u8],
-    )
-}
-
-fn put_cores<B: Board>(board: &B, out: &mut [u8], from: Extent) -> Extent
-    requires good { Good B.build board.now }
-    requires few { Few 1 from }
-    ensures { Continued out.old out.new from result (each (B.build.meaning board.now).cores (core_line (B.build.meaning board.now).capacity)) }
-{
-    let count = board.cores();
-    let mut done = from;
-    for core in 0..count {
-        done = put_core(out, done, core as u8, board.capacity(core));
-    }
-    done
-}
-
-fn put_core(out: &mut [u8], from: Extent, core: u8, capacity: u16) -> Extent
-    requires { Few 3000 from }
-    ensures { Continued out.old out.new from result (line Core (core ∷ word capacity) ∷ []) }
-{
-    let [low, high] = capacity.to_le_bytes();
-    put_record(out, from, Kind::Core, &[core, low, high])
-}
-
-fn put_tasks(tasks: &TaskTable, out: &mut [u8], from: Extent) -> Extent
-    requires { Few 17 from }
-    ensures { Continued out.old out.new from result (each (length (rows tasks.now)) (task_line (rows tasks.now))) }
-{
-    let count = tasks.len();
-    let mut done = from;
-    for task in 0..count {
-        done = put_task(out, done, task as u8, tasks.weight(task), tasks.name(task));
-    }
-    done
-}
-
-fn put_task(out: &mut [u8], from: Extent, task: u8, weight: u8, name: &[u8]) -> Extent
-    requires few { Few 3000 from }
-    requires short { length name.now ≤ 12 }
-    ensures { Continued out.old out.new from result (line Task (task ∷ weight ∷ name.now) ∷ []) }
-{
-    let length = 4 + name.len() as u8;
-    let at = put_bytes(
-        out,
-        from.bytes,
-        &[length, 0, number_of(Kind::Task), 0, task, weight],
-    );
-    Extent {
-        bytes: put_bytes(out, at, name),
-        records: from.records + 1,
+impl<B: Board> Order<'_, B> {
+    // The whole file, and its length.
+    fn put_file(&self, out: &mut [u8]) -> usize
+        requires good { Good B.build self.now.board.now }
+        requires sizes { length (rows self.now.tasks.now) ≡ (B.build.meaning self.now.board.now).tasks }
+        ensures { Put out.old out.new 0 result (file_of self.now.letter (rows self.now.tasks.now) (B.build.meaning self.now.board.now)) }
+    {
+        let mut output = Output {
+            out,
+            bytes: 0,
+            records: 0,
+        };
+        output.put_order(self);
+        output.put_end();
+        output.bytes
     }
 }
 
-// The lines of a kind for all pairs, rising by task.
-fn put_pairs<B: Board>(board: &B, kind: Kind, out: &mut [u8], from: Extent) -> Extent
-    requires good { Good B.build board.now }
-    requires few { Few 1105 from }
-    ensures { Continued out.old out.new from result (pair_lines kind (B.build.meaning board.now).tasks (B.build.meaning board.now).cores (amounts_of kind (B.build.meaning board.now))) }
-{
-    let count = board.tasks();
-    let mut done = from;
-    for task in 0..count {
-        done = put_task_pairs(board, kind, task, out, done);
+impl Output<'_> {
+    // All but the end record.
+    fn put_order<B: Board>(&mut self, order: &Order<'_, B>)
+        requires good { Good B.build order.now.board.now }
+        requires sizes { length (rows order.now.tasks.now) ≡ (B.build.meaning order.now.board.now).tasks }
+        requires fresh { Few 0 self.old }
+        ensures lines { Continued self.old self.new (lines_of order.now.letter (rows order.now.tasks.now) (B.build.meaning order.now.board.now)) }
+        ensures few { Few 2129 self.new }
+    {
+        self.put_head(order.board, order.letter);
+        self.put_cores(order.board);
+        self.put_tasks(order.tasks);
+        self.put_pairs(order.board, Kind::Need);
+        self.put_pairs(order.board, Kind::Slots);
     }
-    done
+
+    fn put_head<B: Board>(&mut self, board: &B, letter: u8)
+        requires good { Good B.build board.now }
+        requires fresh { Few 0 self.old }
+        ensures { Continued self.old self.new (head_line letter (B.build.meaning board.now).tasks (B.build.meaning board.now).cores) }
+    {
+        self.put_record(
+            Kind::Head,
+            &[letter, board.tasks() as u8, board.cores() as u8],
+        );
+    }
+
+    fn put_cores<B: Board>(&mut self, board: &B)
+        requires good { Good B.build board.now }
+        requires few { Few 1 self.old }
+        ensures { Continued self.old self.new (each (B.build.meaning board.now).cores (core_line (B.build.meaning board.now).capacity)) }
+    {
+        for core in 0..board.cores() {
+            self.put_core(core as u8, board.capacity(core));
+        }
+    }
+
+    fn put_core(&mut self, core: u8, capacity: u16)
+        requires { Few 3000 self.old }
+        ensures { Continued self.old self.new (line Core (core ∷ word capacity) ∷ []) }
+    {
+        let [low, high] = capacity.to_le_bytes();
+        self.put_record(Kind::Core, &[core, low, high]);
+    }
+
+    fn put_tasks(&mut self, tasks: &TaskTable)
+        requires { Few 17 self.old }
+        ensures { Continued self.old self.new (each (length (rows tasks.now)) (task_line (rows tasks.now))) }
+    {
+        for task in 0..tasks.len() {
+            self.put_task(task as u8, tasks.weight(task), tasks.name(task));
+        }
+    }
+
+    fn put_task(&mut self, task: u8, weight: u8, name: &[u8])
+        requires few { Few 3000 self.old }
+        requires short { length name.now ≤ 12 }
+        ensures { Continued self.old self.new (line Task (task ∷ weight ∷ name.now) ∷ []) }
+    {
+        let length = 4 + name.len() as u8;
+        self.put_bytes(&[length, 0, Kind::Task.into(), 0, task, weight]);
+        self.put_bytes(name);
+        self.records += 1;
+    }
+
+    // The lines of a kind for all pairs, rising by task.
+    fn put_pairs<B: Board>(&mut self, board: &B, kind: Kind)
+        requires good { Good B.build board.now }
+        requires few { Few 1105 self.old }
+        ensures { Continued self.old self.new (pair_lines kind (B.build.meaning board.now).tasks (B.build.meaning board.now).cores (amounts_of kind (B.build.meaning board.now))) }
+    {
+        for task in 0..board.tasks() {
+            self.put_task_pairs(board, kind, task);
+        }
+    }
+
+    // The lines of one task, rising by core.
+    fn put_task_pairs<B: Board>(&mut self, board: &B, kind: Kind, task: usize)
+        requires good { Good B.build board.now }
+        requires known { task < 64 }
+        requires few { Few 2500 self.old }
+        ensures { Continued self.old self.new (task_pairs kind (B.build.meaning board.now).cores (amounts_of kind (B.build.meaning board.now)) task) }
+    {
+        for core in 0..board.cores() {
+            let amount = amount_of(board, kind, task, core);
+            self.put_pair(kind, task as u8, core as u8, amount);
+        }
+    }
+
+    fn put_pair(&mut self, kind: Kind, task: u8, core: u8, amount: u16)
+        requires { Few 3000 self.old }
+        ensures { Continued self.old self.new (pair_line kind task core amount) }
+    {
+        if amount > 0 {
+            let [low, high] = amount.to_le_bytes();
+            self.put_record(kind, &[task, core, low, high]);
+        }
+    }
+
+    // The last record tells how many stand before it.
+    fn put_end(&mut self)
+        requires { Few 3000 self.old }
+        ensures { Continued self.old self.new (line End (word self.old.records) ∷ []) }
+    {
+        let [low, high] = (self.records as u16).to_le_bytes();
+        self.put_record(Kind::End, &[low, high]);
+    }
+
+    // One record, behind what is written.
+    fn put_record(&mut self, kind: Kind, body: &[u8])
+        requires few { Few 3000 self.old }
+        requires short { length body.now ≤ 14 }
+        ensures { Continued self.old self.new (line kind body.now ∷ []) }
+    {
+        let length = 2 + body.len() as u8;
+        self.put_bytes(&[length, 0, kind.into(), 0]);
+        self.put_bytes(body);
+        self.records += 1;
+    }
+
+    // Where the bytes would pass the output's end, only their place is told.
+    fn put_bytes(&mut self, bytes: &[u8])
+        requires few { self.old.bytes < 2 ^ 32 }
+        requires short { length bytes.now ≤ 14 }
+        ensures { Appended self.old self.new bytes.now }
+    {
+        let end = self.bytes + bytes.len();
+        if end <= self.out.len() {
+            self.out[self.bytes..end].copy_from_slice(bytes);
+        }
+        self.bytes = end;
+    }
 }
 
-// The lines of one task, rising by core.
-fn put_task_pairs<B: Board>(
-    board: &B,
-    kind: Kind,
-    task: usize,
-    out: &mut [u8],
-    from: Extent,
-) -> Extent
-    requires good { Good B.build board.now }
-    requires known { task < 64 }
-    requires few { Few 2500 from }
-    ensures { Continued out.old out.new from result (task_pairs kind (B.build.meaning board.now).cores (amounts_of kind (B.build.meaning board.now)) task) }
-{
-    let count = board.cores();
-    let mut done = from;
-    for core in 0..count {
-        let amount = amount_of(board, kind, task, core);
-        done = put_pair(out, done, kind, task as u8, core as u8, amount);
-    }
-    done
-}
-
-// What the lines of a kind tell: the slots that are held, or the needs.
+// What the lines of a kind tell: the slots that are held, or the needs. By the kind and not by a closure, since the lines tell the kind too.
 fn amount_of<B: Board>(board: &B, kind: Kind, task: usize, core: usize) -> u16
     requires { Good B.build board.now }
     ensures { result ≡ amounts_of kind (B.build.meaning board.now) task core }
@@ -179,64 +211,4 @@ fn amount_of<B: Board>(board: &B, kind: Kind, task: usize, core: usize) -> u16
         Kind::Slots => board.held(task, core),
         _ => board.need(task, core),
     }
-}
-
-fn put_pair(out: &mut [u8], from: Extent, kind: Kind, task: u8, core: u8, amount: u16) -> Extent
-    requires { Few 3000 from }
-    ensures { Continued out.old out.new from result (pair_line kind task core amount) }
-{
-    if amount == 0 {
-        return from;
-    }
-    let [low, high] = amount.to_le_bytes();
-    put_record(out, from, kind, &[task, core, low, high])
-}
-
-// The last record tells how many stand before it.
-fn put_end(out: &mut [u8], from: Extent, count: u16) -> Extent
-    requires { Few 3000 from }
-    ensures { Continued out.old out.new from result (line End (word count) ∷ []) }
-{
-    let [low, high] = count.to_le_bytes();
-    put_record(out, from, Kind::End, &[low, high])
-}
-
-// One record, behind what is written.
-fn put_record(out: &mut [u8], from: Extent, kind: Kind, body: &[u8]) -> Extent
-    requires few { Few 3000 from }
-    requires short { length body.now ≤ 14 }
-    ensures { Continued out.old out.new from result (line kind body.now ∷ []) }
-{
-    let length = 2 + body.len() as u8;
-    let at = put_bytes(out, from.bytes, &[length, 0, number_of(kind), 0]);
-    Extent {
-        bytes: put_bytes(out, at, body),
-        records: from.records + 1,
-    }
-}
-
-fn number_of(kind: Kind) -> u8
-    ensures { result ≡ number_of kind }
-{
-    match kind {
-        Kind::Head => 1,
-        Kind::Core => 2,
-        Kind::Task => 3,
-        Kind::Need => 4,
-        Kind::Slots => 5,
-        Kind::End => 6,
-    }
-}
-
-// Where the bytes would pass the output's end, only their place is told.
-fn put_bytes(out: &mut [u8], at: usize, bytes: &[u8]) -> usize
-    requires few { at < 2 ^ 32 }
-    requires short { length bytes.now ≤ 14 }
-    ensures { Put out.old out.new at result bytes.now }
-{
-    let end = at + bytes.len();
-    if end <= out.len() {
-        out[at..end].copy_from_slice(bytes);
-    }
-    end
 }

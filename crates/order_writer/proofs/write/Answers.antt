@@ -1,5 +1,6 @@
 use Rattle.std.proofs.Common.{◌≡◌, ℕ, ◌+◌, List, ◌++◌, length, drop, None, Ok, sym, ap, ◌∙◌, arith}
 use Rattle.tasks.specs.Table.{rows}
+use Rattle.tasks.proofs.Steps.{passed}
 use Rattle.orders.specs.Encoding.{file_of}
 use Rattle.order_writer.specs.Writing.{write_why, told, left}
 use Rattle.order_writer.proofs.Allowed.{allowed}
@@ -13,7 +14,7 @@ returns g c =
     let file : List ℕ = file_of c.args.letter rs m in
     let counted = c.put_file-length.ensures.onward in
     let why : write_why c.args.letter rs m (length out) ≡ None =
-    allowed c.args.letter rs m (length out) c.in-Some.field-0 (sym c.sharing_of.ensures ∙ c.in-Some.is)
+    allowed c.args.letter rs m (length out) c.in_ok-map_err.field-0 (sym (passed c.try_from.result c.map_err.result _ c.in_ok-map_err.field-0 c.map_err.ensures.cases c.in_ok-map_err.was) ∙ c.try_from.ensures)
     (omega (arith, c.len.ensures, c.tasks.ensures, c.if-len-tasks.false)) (omega (arith, c.tasks-else-len-tasks.ensures, c.if-tasks-eq0.false)) (omega (arith, counted, c.if-out-length.false)) in
     let far : 0 + length file ≡ length file = omega arith in
     record {

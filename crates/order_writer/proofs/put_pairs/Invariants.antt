@@ -1,8 +1,0 @@
-use Rattle.orders.specs.Encoding.{each, task_pairs}
-use Rattle.order_writer.specs.Writing.{Continued, amounts_of}
-use Rattle.order_writer.proofs.put_pairs.Given as goal
-
-abbrev pub invariant-loop-task : goal.invariant-loop-task
-invariant-loop-task g l =
-    let m = g.B.Board.build.meaning l.board in
-    Continued l.initial.out l.out l.initial.done l.done (each l.task (task_pairs l.kind m.cores (amounts_of l.kind m)))

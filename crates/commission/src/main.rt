@@ -7,12 +7,13 @@ ghost use Rattle.plan.specs.States.{lent_of, rule_of};
 
 use board::fault::Fault;
 use board::{Board, MOST_TASKS};
-use commissioning::{Stand, Tally, Told, follow, look};
+use calls::Phase;
+use commissioning::{Done, NotDone, Stand, Tally, follow, look};
 use judge::{Verdict, judge};
 use orderfile::{read, sizes};
 use pair_board::PairBoard;
 use pair_board::entry::BLANK;
-use plan::runs::{Answer, State};
+use plan::runs::{NotTaken, State};
 use plan::states::WorkingPlan;
 use routes::Step;
 use rules::{ByNeed, Even, Rule, Weighted};
@@ -22,20 +23,13 @@ use tasks::table::TaskTable;
 // Steps for the longest route.
 type Route = [Step; 16];
 
-fn print_fault(rt: &HostRuntime, fault: Fault) -> io::Result<()> {
-    let number = fault.number();
-    let layer = fault.layer();
-    let place = fault.place;
-    println!(rt; "refused {number} layer {layer} place {place}")
-}
-
-fn print_told(rt: &HostRuntime, told: Told) -> io::Result<()> {
+fn print_told(rt: &HostRuntime, told: Result<Done, NotDone>) -> io::Result<()> {
     match told {
-        Told::Answered(Answer::Taken) => println!(rt; "taken"),
-        Told::Answered(Answer::Refused(fault)) => print_fault(rt, fault),
-        Told::Answered(Answer::OutOfTurn) => println!(rt; "out of turn"),
-        Told::Judged => println!(rt; "judged"),
-        Told::NotUnderstood => println!(rt; "not understood"),
+        Ok(Done::Taken) => println!(rt; "taken"),
+        Ok(Done::Judged) => println!(rt; "judged"),
+        Err(NotDone::NotTaken(NotTaken::Refused(fault))) => println!(rt; "{fault}"),
+        Err(NotDone::NotTaken(NotTaken::OutOfTurn)) => println!(rt; "out of turn"),
+        Err(NotDone::NotUnderstood) => println!(rt; "not understood"),
     }
 }
 
@@ -58,7 +52,7 @@ fn print_verdict(
             }
             println!(rt; " to task {loser}")
         }
-        Err(fault) => print_fault(rt, fault),
+        Err(fault) => println!(rt; "{fault}"),
     }
 }
 
@@ -88,7 +82,7 @@ fn print_plan<B: Board, R: Rule>(
 fn print_line<B: Board, R: Rule>(
     rt: &HostRuntime,
     line: &str,
-    told: Told,
+    told: Result<Done, NotDone>,
     state: &State<'_, B, R>,
     tasks: usize,
 ) -> io::Result<()>
@@ -99,7 +93,7 @@ fn print_line<B: Board, R: Rule>(
     print_plan(rt, state, tasks)
 }
 
-fn print_tally(rt: &HostRuntime, tally: Tally, working: bool) -> io::Result<()> {
+fn print_tally(rt: &HostRuntime, tally: Tally, phase: Phase) -> io::Result<()> {
     let taken = tally.taken;
     let refused = tally.refused;
     let late = tally.late;
@@ -108,10 +102,9 @@ fn print_tally(rt: &HostRuntime, tally: Tally, working: bool) -> io::Result<()> 
     println!(rt;
         "taken {taken}, refused {refused}, out of turn {late}, judged {judged}, not understood {unknown}"
     )?;
-    if working {
-        println!(rt; "the plan is working")
-    } else {
-        println!(rt; "the plan is released")
+    match phase {
+        Phase::Working => println!(rt; "the plan is working"),
+        Phase::Released => println!(rt; "the plan is released"),
     }
 }
 
@@ -121,8 +114,8 @@ fn print_board<B: Board, R: Rule>(rt: &HostRuntime, board: &B, rule: R) -> io::R
 {
     let mut route = [Step { task: 0, core: 0 }; 16];
     let mut totals = [0; MOST_TASKS];
-    for task in 0..MOST_TASKS {
-        totals[task] = board.total(task);
+    for (task, total) in totals.iter_mut().enumerate() {
+        *total = board.total(task);
     }
     let stand = Stand {
         totals,
@@ -140,13 +133,7 @@ fn play<B: Board, R: Rule>(rt: &HostRuntime, board: &mut B, rule: R, script: &st
     print_board(rt, board, rule)?;
     println!(rt; "plan")?;
     let tasks = board.tasks();
-    let mut tally = Tally {
-        taken: 0,
-        refused: 0,
-        late: 0,
-        judged: 0,
-        unknown: 0,
-    };
+    let mut tally = Tally::default();
     let mut state = State::Working(WorkingPlan::make(board, rule));
     let mut printed = print_plan(rt, &state, tasks);
     for line in script.lines() {
@@ -157,13 +144,13 @@ fn play<B: Board, R: Rule>(rt: &HostRuntime, board: &mut B, rule: R, script: &st
             printed = print_line(rt, line, told, &state, tasks);
         }
     }
-    let working = state.is_working();
+    let phase = state.phase();
     match state {
         State::Working(plan) => plan.end(),
         State::Released(plan) => plan.end(),
     }
     printed?;
-    print_tally(rt, tally, working)
+    print_tally(rt, tally, phase)
 }
 
 // Plays under the rule that the letter names.
@@ -184,7 +171,7 @@ fn play_by_letter<B: Board>(
 }
 
 fn refuse(rt: &HostRuntime, fault: Fault) -> io::Result<()> {
-    print_fault(rt, fault)?;
+    println!(rt; "{fault}")?;
     Err(io::ErrorKind::InvalidData.into())
 }
 

@@ -26,7 +26,8 @@ pub struct Working;
 // The state of a plan that stays as it is until it is reopened.
 pub struct Released;
 
-// A plan on a lent board, in the state `S`.
+// A plan on a lent board, in the state `S`. That it stands is asked by each call: a fact kept in the type would hide how the
+// loan ends, of which `end` and `write` promise that the board stays as it is.
 pub struct Plan<'a, B, R, S> {
     board: &'a mut B,
     rule: R,

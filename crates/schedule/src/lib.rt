@@ -45,7 +45,7 @@ pub fn run_and_judge<B: Board, R: Rule>(
 }
 
 // Two runs under one rule, on boards of any two builds. Where both are played and end with the same numbers,
-// their plans are alike, whatever came before.
+// their plans are alike, whatever came before. The slices stand each by itself, since a struct of them would say their ends less plainly.
 pub fn compare_runs<A: Board, B: Board, R: Rule>(
     first: &mut A,
     second: &mut B,

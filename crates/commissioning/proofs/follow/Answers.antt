@@ -1,6 +1,6 @@
 use Rattle.std.proofs.Common.{sym, subst, rules}
 use Rattle.changes.specs.Standing.{Standing}
-use Rattle.plan.specs.States.{lent_of, rule_of, is_working}
+use Rattle.plan.specs.States.{lent_of, rule_of, phase_of}
 use Rattle.commissioning.proofs.Standing.{attempt-stands}
 use Rattle.commissioning.proofs.follow.Goals as goal
 
@@ -15,6 +15,6 @@ returns-in-Some-Play g c =
     record {
       lent = told.lent;
       rule = told.rule;
-      standing = subst P (sym told.rule) (attempt-stands b.build (order (rule_of state)) (lent_of state).now (lent_of next).now (is_working state) (is_working next) _ _ told.attempted c.requires);
+      standing = subst P (sym told.rule) (attempt-stands b.build (order (rule_of state)) (lent_of state).now (lent_of next).now (phase_of state) (phase_of next) _ _ told.attempted c.requires);
       followed = search rules;
     }

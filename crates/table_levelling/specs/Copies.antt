@@ -56,3 +56,10 @@ pub record Holds (from to : Meaning) : Type 0 where
 pub record Reachable (plan : Plan) (to : Meaning) : Type 0 where
   pub within : (task core : ℕ) → plan task core ≤ to.need task core
   pub room : (core : ℕ) → core < to.cores → given to.tasks (pairwise max plan to.held) core ≤ to.capacity core
+
+-- the same tasks and cores, needs and capacities
+pub record Mirrors (from to : Meaning) : Type 0 where
+  pub tasks : to.tasks ≡ from.tasks
+  pub cores : to.cores ≡ from.cores
+  pub need : to.need ≡ from.need
+  pub capacity : to.capacity ≡ from.capacity

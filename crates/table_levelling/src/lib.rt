@@ -5,7 +5,8 @@ ghost use Rattle.std.specs.Prelude.{◌≡◌, ℕ, ◌+◌, ◌<◌, min};
 ghost use Rattle.board.specs.Meaning.{Meaning, planned};
 ghost use Rattle.board.specs.Boards.{Good, Went};
 ghost use Rattle.board.specs.Outcomes.{after, set_held};
-ghost use Rattle.table_levelling.specs.Copies.{row_to, tasks_to, pairwise, lower-settled, raise-settled, ordered, Roomy, Holds, Reachable};
+ghost use Rattle.table_board.specs.Table.{table_of, table_build};
+ghost use Rattle.table_levelling.specs.Copies.{row_to, tasks_to, pairwise, lower-settled, raise-settled, ordered, Roomy, Holds, Reachable, Mirrors};
 ghost use Rattle.levelling.specs.Levelled.{FairestOn};
 ghost use Rattle.board.specs.Meaning.{SameOrder};
 
@@ -147,6 +148,18 @@ fn bring_slots<A: Board, B: Board>(from: &A, to: &mut B)
     change_slots::<A, B, Raise>(from, to);
 }
 
+// A table with the order of the board, and no slots on it.
+fn ordered_table<'a, B: Board>(board: &B, cells: &'a mut [u16; MOST_NUMBERS]) -> TableBoard<'a>
+    requires { Good B.build board.now }
+    ensures good { Good table_build result }
+    ensures mirrors { Mirrors (B.build.meaning board.now) (table_of result) }
+{
+    let mut table = TableBoard::make(board.tasks(), board.cores(), cells);
+    copy_capacities(board, &mut table);
+    copy_needs(board, &mut table);
+    table
+}
+
 // Makes the plan on the board fairest. It is levelled on a table, where each number is found at once, and its slots are brought back.
 pub fn level_on_table<B: Board, R: Rule>(board: &mut B, rule: R)
     requires { Good B.build board.old }
@@ -155,9 +168,7 @@ pub fn level_on_table<B: Board, R: Rule>(board: &mut B, rule: R)
     ensures fairest { FairestOn (R.order rule) (B.build.meaning board.new) }
 {
     let mut cells = [0; MOST_NUMBERS];
-    let mut table = TableBoard::make(board.tasks(), board.cores(), &mut cells);
-    copy_capacities(board, &mut table);
-    copy_needs(board, &mut table);
+    let mut table = ordered_table(board, &mut cells);
     bring_slots(board, &mut table);
     level(&mut table, rule);
     bring_slots(&table, board);

@@ -1,7 +1,7 @@
 // The seam between planning and memory: what every board answers, which changes it takes, and which it refuses.
 #![tactic(auto)]
 
-ghost use Rattle.std.specs.Prelude.{◌≡◌};
+ghost use Rattle.std.specs.Prelude.{◌≡◌, ◌<◌, nat_le};
 ghost use Rattle.board.specs.Meaning.{given_at, free_at, free_slots, total_of, whole_need_of, pair_count, sizes_allowed};
 ghost use Rattle.board.specs.Outcomes.{answered, set_need, set_held, set_capacity};
 ghost use Rattle.board.specs.Boards.{Build, Good, Changed, Cleared};
@@ -144,6 +144,17 @@ pub trait Board {
         count
     }
 
+    // Whether no pair is left for one of the board that has no need yet.
+    fn no_pair_left(&self, task: usize, core: usize) -> bool
+        requires good { Good build self.now }
+        requires on_tasks { task < (build.meaning self.now).tasks }
+        requires on_cores { core < (build.meaning self.now).cores }
+        requires none { (build.meaning self.now).need task core ≡ 0 }
+        ensures { result ≡ nat_le (build.meaning self.now).greatest_pairs (pair_count (build.meaning self.now)) }
+    {
+        self.pair_count() >= self.greatest_pairs()
+    }
+
     // What `set_need` would answer; the board stays as it is. The tests and their order are the same for every board.
     fn test_need(&self, task: usize, core: usize, need: u16) -> Result<(), Fault>
         requires { Good build self.now }
@@ -158,7 +169,7 @@ pub trait Board {
         if need < self.held(task, core) {
             return Err(Refusal::SlotsOverNeed.at(0));
         }
-        if need > 0 && self.need(task, core) == 0 && self.pair_count() >= self.greatest_pairs() {
+        if need > 0 && self.need(task, core) == 0 && self.no_pair_left(task, core) {
             return Err(Refusal::NoPairLeft.at(0));
         }
         Ok(())

@@ -146,17 +146,8 @@ impl<'a> Board for TableBoard<'a> {
     }
 
     // Every pair has its place in the table, so there is no need to count them.
-    fn test_need(&self, task: usize, core: usize, need: u16) -> Result<(), Fault> {
-        if task >= self.tasks || core >= self.cores {
-            return Err(Refusal::NoSuchTaskOrCore.at(0));
-        }
-        if need > MOST_SLOTS {
-            return Err(Refusal::AmountTooLarge.at(0));
-        }
-        if need < self.held(task, core) {
-            return Err(Refusal::SlotsOverNeed.at(0));
-        }
-        Ok(())
+    fn no_pair_left(&self, _task: usize, _core: usize) -> bool {
+        false
     }
 
     fn set_need(&mut self, task: usize, core: usize, need: u16) -> Result<(), Fault> {

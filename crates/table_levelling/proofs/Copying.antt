@@ -77,6 +77,9 @@ needs-whole from old m task so e me =
 
 -- slots
 
+pub on-tasks : (old m : Meaning) (plan : Plan) → m ≡ planned old plan → m.tasks ≡ old.tasks
+on-tasks old m plan me = ap (λ (z : Meaning). z.tasks) me
+
 pub row-none : (new : Plan) (to : Meaning) (task : ℕ) → to ≡ planned to (row_to new to.held task 0)
 row-none new to task = ap (planned to) (sym (row-start new to.held task))
 

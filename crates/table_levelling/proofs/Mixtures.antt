@@ -59,9 +59,6 @@ tasks-all new old tasks same = fun_ext (λ t. fun_ext (λ c. elim (cases_lt t ta
   | inr l ↦ let e = same t c l in grind (arith, nat_tests)
 ]))
 
-pub tasks-le : (new old most : Plan) (bound : ℕ) → ((t c : ℕ) → new t c ≤ most t c) → ((t c : ℕ) → old t c ≤ most t c) → (t c : ℕ) → tasks_to new old bound t c ≤ most t c
-tasks-le new old most bound p q t c = grind (arith, nat_tests, p t c, q t c)
-
 pub capacities-start : (capacity : ℕ → ℕ) → capacities_to capacity 0 ≡ (λ _. 0)
 capacities-start capacity = fun_ext (λ c. grind (arith, nat_tests))
 

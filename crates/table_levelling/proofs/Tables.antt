@@ -8,7 +8,7 @@ use Rattle.fairness.specs.Levels.{Fairest}
 use Rattle.board.specs.Meaning.{Meaning, Sound, SameOrder, planned, new_board, most_slots}
 use Rattle.levelling.specs.Levelled.{FairestOn}
 use Rattle.table_board.specs.Cells.{table_fits}
-use Rattle.table_levelling.specs.Copies.{ordered, Roomy, Holds}
+use Rattle.table_levelling.specs.Copies.{ordered, Roomy, Holds, Mirrors}
 
 -- a new table for a board
 abbrev pub NewTable : Meaning → Meaning → Type 0
@@ -41,13 +41,6 @@ pub table-clear : (from table : Meaning) → Sound from → NewTable from table 
 table-clear from table so made =
     let P : Meaning → Type 0 = λ z. z ≡ ordered z (λ _. 0) (λ _ _. 0) in
     elim (table_is from table so made) [ inl e ↦ subst P (sym e) refl | inr e ↦ subst P (sym e.2) refl ]
-
--- the same tasks and cores, needs and capacities
-pub record Mirrors (from to : Meaning) : Type 0 where
-  pub tasks : to.tasks ≡ from.tasks
-  pub cores : to.cores ≡ from.cores
-  pub need : to.need ≡ from.need
-  pub capacity : to.capacity ≡ from.capacity
 
 pub ordered-mirrors : (from old with-capacities to : Meaning) → Roomy from old → with-capacities ≡ ordered old from.capacity (λ _ _. 0)
     → to ≡ ordered with-capacities with-capacities.capacity from.need → Mirrors from to

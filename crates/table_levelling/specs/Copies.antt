@@ -2,7 +2,8 @@
 use Rattle.std.specs.Prelude.{◌≡◌, ℕ, ◌*◌, ◌<◌, ◌≤◌, refl, min, max, cond, ◌&&◌, ◌==◌, nat_lt}
 use Rattle.std.proofs.Common.{arith}
 use Rattle.fairness.specs.Plans.{Plan, given}
-use Rattle.board.specs.Meaning.{Meaning, most_slots}
+use Rattle.board.specs.Meaning.{Meaning, most_slots, planned}
+use Rattle.board.specs.Outcomes.{after, set_held}
 
 -- the tasks below the bound are as in the new plan, and the others as in the old one
 abbrev pub tasks_to : Plan → Plan → ℕ → Plan
@@ -56,3 +57,24 @@ pub record Holds (from to : Meaning) : Type 0 where
 pub record Reachable (plan : Plan) (to : Meaning) : Type 0 where
   pub within : (task core : ℕ) → plan task core ≤ to.need task core
   pub room : (core : ℕ) → core < to.cores → given to.tasks (pairwise max plan to.held) core ≤ to.capacity core
+
+-- every slot count on to can become what the change makes of those on from and to
+abbrev pub CanChange : (ℕ → ℕ → ℕ) → Meaning → Meaning → Type 0
+CanChange change from to = Reachable (pairwise change from.held to.held) to
+
+-- to after the change was asked at a pair, and where it was made at all pairs of a task, and at all pairs
+abbrev pub pair_changed : (ℕ → ℕ → ℕ) → Meaning → Meaning → ℕ → ℕ → Meaning
+pair_changed change from to task core = after to (set_held to task core (change (from.held task core) (to.held task core)))
+
+abbrev pub task_changed : (ℕ → ℕ → ℕ) → Meaning → Meaning → ℕ → Meaning
+task_changed change from to task = planned to (row_to (pairwise change from.held to.held) to.held task to.cores)
+
+abbrev pub all_changed : (ℕ → ℕ → ℕ) → Meaning → Meaning → Meaning
+all_changed change from to = planned to (pairwise change from.held to.held)
+
+-- the same tasks and cores, needs and capacities
+pub record Mirrors (from to : Meaning) : Type 0 where
+  pub tasks : to.tasks ≡ from.tasks
+  pub cores : to.cores ≡ from.cores
+  pub need : to.need ≡ from.need
+  pub capacity : to.capacity ≡ from.capacity

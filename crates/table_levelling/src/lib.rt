@@ -2,12 +2,11 @@
 #![tactic(auto)]
 
 ghost use Rattle.std.specs.Prelude.{◌≡◌, ℕ, ◌+◌, ◌<◌, min};
-ghost use Rattle.board.specs.Meaning.{Meaning, planned};
+ghost use Rattle.board.specs.Meaning.{SameOrder, planned};
 ghost use Rattle.board.specs.Boards.{Good, Went};
-ghost use Rattle.board.specs.Outcomes.{after, set_held};
-ghost use Rattle.table_levelling.specs.Copies.{row_to, tasks_to, pairwise, lower-settled, raise-settled, ordered, Roomy, Holds, Reachable};
+ghost use Rattle.table_board.specs.Table.{table_of, table_build};
+ghost use Rattle.table_levelling.specs.Copies.{tasks_to, lower-settled, raise-settled, ordered, pair_changed, task_changed, all_changed, CanChange, Roomy, Holds, Mirrors};
 ghost use Rattle.levelling.specs.Levelled.{FairestOn};
-ghost use Rattle.board.specs.Meaning.{SameOrder};
 
 use board::Board;
 use levelling::level;
@@ -99,7 +98,7 @@ fn change_pair<A: Board, B: Board, C: Change>(from: &A, to: &mut B, task: usize,
     requires from { Good A.build from.now }
     requires to { Good B.build to.old }
     ensures went { Went B.build to.old to.new }
-    ensures changed { B.build.meaning to.new ≡ after (B.build.meaning to.old) (set_held (B.build.meaning to.old) task core (pairwise C.changed (A.build.meaning from.now).held (B.build.meaning to.old).held task core)) }
+    ensures changed { B.build.meaning to.new ≡ pair_changed C.changed (A.build.meaning from.now) (B.build.meaning to.old) task core }
 {
     let held = to.held(task, core);
     let amount = C::changed(from.held(task, core), held);
@@ -113,9 +112,9 @@ fn change_task<A: Board, B: Board, C: Change>(from: &A, to: &mut B, task: usize)
     requires from { Good A.build from.now }
     requires to { Good B.build to.old }
     requires task { task < (B.build.meaning to.old).tasks }
-    requires reach { Reachable (pairwise C.changed (A.build.meaning from.now).held (B.build.meaning to.old).held) (B.build.meaning to.old) }
+    requires reach { CanChange C.changed (A.build.meaning from.now) (B.build.meaning to.old) }
     ensures went { Went B.build to.old to.new }
-    ensures changed { B.build.meaning to.new ≡ planned (B.build.meaning to.old) (row_to (pairwise C.changed (A.build.meaning from.now).held (B.build.meaning to.old).held) (B.build.meaning to.old).held task (B.build.meaning to.old).cores) }
+    ensures changed { B.build.meaning to.new ≡ task_changed C.changed (A.build.meaning from.now) (B.build.meaning to.old) task }
 {
     for core in 0..to.cores() {
         change_pair::<A, B, C>(from, to, task, core);
@@ -126,9 +125,9 @@ fn change_task<A: Board, B: Board, C: Change>(from: &A, to: &mut B, task: usize)
 fn change_slots<A: Board, B: Board, C: Change>(from: &A, to: &mut B)
     requires from { Good A.build from.now }
     requires to { Good B.build to.old }
-    requires reach { Reachable (pairwise C.changed (A.build.meaning from.now).held (B.build.meaning to.old).held) (B.build.meaning to.old) }
+    requires reach { CanChange C.changed (A.build.meaning from.now) (B.build.meaning to.old) }
     ensures went { Went B.build to.old to.new }
-    ensures changed { B.build.meaning to.new ≡ planned (B.build.meaning to.old) (pairwise C.changed (A.build.meaning from.now).held (B.build.meaning to.old).held) }
+    ensures changed { B.build.meaning to.new ≡ all_changed C.changed (A.build.meaning from.now) (B.build.meaning to.old) }
 {
     for task in 0..to.tasks() {
         change_task::<A, B, C>(from, to, task);
@@ -147,6 +146,18 @@ fn bring_slots<A: Board, B: Board>(from: &A, to: &mut B)
     change_slots::<A, B, Raise>(from, to);
 }
 
+// A table with the order of the board, and no slots on it.
+fn ordered_table<'a, B: Board>(board: &B, cells: &'a mut [u16; MOST_NUMBERS]) -> TableBoard<'a>
+    requires { Good B.build board.now }
+    ensures good { Good table_build result }
+    ensures mirrors { Mirrors (B.build.meaning board.now) (table_of result) }
+{
+    let mut table = TableBoard::make(board.tasks(), board.cores(), cells);
+    copy_capacities(board, &mut table);
+    copy_needs(board, &mut table);
+    table
+}
+
 // Makes the plan on the board fairest. It is levelled on a table, where each number is found at once, and its slots are brought back.
 pub fn level_on_table<B: Board, R: Rule>(board: &mut B, rule: R)
     requires { Good B.build board.old }
@@ -155,9 +166,7 @@ pub fn level_on_table<B: Board, R: Rule>(board: &mut B, rule: R)
     ensures fairest { FairestOn (R.order rule) (B.build.meaning board.new) }
 {
     let mut cells = [0; MOST_NUMBERS];
-    let mut table = TableBoard::make(board.tasks(), board.cores(), &mut cells);
-    copy_capacities(board, &mut table);
-    copy_needs(board, &mut table);
+    let mut table = ordered_table(board, &mut cells);
     bring_slots(board, &mut table);
     level(&mut table, rule);
     bring_slots(&table, board);

@@ -1,8 +1,8 @@
-use Rattle.std.proofs.Common.{◌≡◌, ap, arith}
+use Rattle.std.proofs.Common.{arith}
 use Rattle.board.specs.Meaning.{Meaning}
-use Rattle.table_levelling.specs.Copies.{pairwise}
+use Rattle.table_levelling.specs.Copies.{tasks_to, pairwise}
 use Rattle.board.proofs.Going.{went-nowhere, went_on}
-use Rattle.table_levelling.proofs.Copying.{tasks-none, change-tasks-more, change-whole, reach-on}
+use Rattle.table_levelling.proofs.Copying.{tasks-none, change-tasks-more, change-whole, on-tasks, reach-on}
 use Rattle.table_levelling.proofs.change_slots.Goals as goal
 
 pub loop-task-init : goal.loop-task-init
@@ -19,7 +19,8 @@ change_task-requires g c =
     let old : Meaning = b.build.meaning c.args.to.now in
     let m : Meaning = b.build.meaning c.loop-task.to in
     let inv = c.loop-task.invariant.1 in
-    let tasks : m.tasks ≡ old.tasks = ap (λ (z : Meaning). z.tasks) inv in
+    let new = pairwise g.C.Change.changed from.held old.held in
+    let tasks = on-tasks old m (tasks_to new old.held c.loop-task.task) inv in
     record {
       from = c.requires.from;
       to = c.loop-task.invariant.0.good;

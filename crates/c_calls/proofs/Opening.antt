@@ -1,5 +1,5 @@
 -- A table board serves for a file as the report's pair board does: both have room for all that an order can say.
-use Rattle.std.proofs.Common.{◌≡◌, ℕ, ◌+◌, ◌*◌, ◌≤◌, min, Bool, true, false, cond, ◌&&◌, leb, List, Ok, Err, Result, sym, refl, ap, ◌∙◌, subst, mul-le-mul_right, arith}
+use Rattle.std.proofs.Common.{◌≡◌, ℕ, ◌+◌, ◌*◌, ◌≤◌, min, Bool, true, false, cond, ◌&&◌, leb, List, Ok, Err, sym, refl, ap, ◌∙◌, mul-le-mul_right, arith}
 use Rattle.std.proofs.lemmas.Bool.Decides.{nat_tests}
 use Rattle.board.specs.declared.fault.Fault.{Fault}
 use Rattle.board.specs.Meaning.{Meaning, new_board, most_slots, sizes_allowed}
@@ -37,10 +37,11 @@ outcome-is file told m long sized all made =
 pub order_is : (outcome : Outcome) (old now : Meaning) (rows : List Row) (letter : ℕ) → Ok letter ≡ letter_of outcome → now ≡ board_of old outcome → rows ≡ rows_of outcome
     → outcome ≡ Ok (record { letter = letter; board = now; rows = rows })
 order_is (Ok order) old now rows letter told left listed =
-    let e : letter ≡ order.letter = ap (λ (r : Result ℕ Fault). elim r [ Ok l ↦ l | Err f ↦ 0 ]) told in
-    λ i. Ok (record { letter = sym e i; board = sym left i; rows = sym listed i })
-order_is (Err fault) old now rows letter told left listed = absurd (subst IsOk told tt)
-  where
-    IsOk : Result ℕ Fault → Type 0
-    IsOk (Ok l) = Unit {0}
-    IsOk (Err f) = ⊥
+    let same : letter ≡ order.letter = cc in
+    λ i. Ok (record { letter = sym same i; board = sym left i; rows = sym listed i })
+order_is (Err fault) old now rows letter told left listed = cc
+
+-- a fault was answered, so that is what the file came to
+pub fault_is : (outcome : Outcome) (fault : Fault) → Err fault ≡ letter_of outcome → outcome ≡ Err fault
+fault_is (Ok order) fault told = cc
+fault_is (Err other) fault told = cc

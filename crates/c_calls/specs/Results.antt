@@ -1,5 +1,5 @@
 -- What each call from C leaves in the memory that it was lent, and what it answers.
-use Rattle.std.specs.Prelude.{◌≡◌, ℕ, cond, ◌⊎◌, List, length, Some, None, Ok, Err, Option, Result, nat_lt, slice_index_or}
+use Rattle.std.specs.Prelude.{◌≡◌, ℕ, cond, ◌⊎◌, List, length, Some, None, Ok, Err, Option, Result, nat_lt}
 use Rattle.fairness.specs.Plans.{Plan}
 use Rattle.fairness.specs.Laws.{Comparison}
 use Rattle.board.specs.declared.fault.Fault.{Fault}
@@ -12,13 +12,15 @@ use Rattle.judge.specs.declared.Verdict.{Verdict}
 use Rattle.judge.specs.declared.Verdict.TheVariants as verdict
 use Rattle.judge.specs.Verdicts.{Judged}
 use Rattle.tasks.specs.Rows.{Row}
-use Rattle.tasks.specs.Table.{weight_in}
 use Rattle.orders.specs.Reads.{Outcome}
 use Rattle.order_writer.specs.Writing.{Written, told, left}
-use Rattle.reporting.specs.Reports.{rule_of, ShownBy}
+use Rattle.letters.specs.Letters.{ByLetter}
+use Rattle.reporting.specs.declared.NoPlan.{NoPlan}
+use Rattle.reporting.specs.declared.NoPlan.TheVariants.{Refused, OutOfMemory}
+use Rattle.reporting.specs.Reports.{ShownBy}
 use Rattle.c_calls.specs.declared.answers.Answer.{Answer}
 use Rattle.c_calls.specs.declared.answers.Judgement.{Judgement}
-use Rattle.c_calls.specs.Answers.{done, refused_for, answer_of}
+use Rattle.c_calls.specs.Answers.{done, refused_for, answer_of, shown_of}
 
 -- the verdict by number: 0 passed, 1 a free slot with its core and task, 2 a route with its steps and its loser
 abbrev pub verdict_of : Verdict → Judgement
@@ -31,20 +33,18 @@ judgement_of (Ok verdict) = verdict_of verdict
 judgement_of (Err fault) = record { answer = refused_for fault; verdict = 0; core = 0; task = 0; steps = 0; loser = 0 }
 
 -- the judge's answer on a board under the rule of a letter, with the weights of the tasks
-pub record JudgedBy (letter : ℕ) (m : Meaning) (rows : List Row) (before after : List Step) (r : Result Verdict Fault) : Type 0 where
-  pub weights : List ℕ
-  pub weighed : (task : ℕ) → slice_index_or weights task 1 ≡ weight_in rows task
-  pub judged : Judged (rule_of letter weights) m before after r
+abbrev pub JudgedBy : ℕ → Meaning → List Row → List Step → List Step → Result Verdict Fault → Type 0
+JudgedBy letter m rows before after r = ByLetter letter rows (λ compare. Judged compare m before after r)
 
 -- the slots of an accepted file are judged; of any other the fault is told, and the list is as it was
-pub record SlotsJudged (letter : ℕ) (m : Meaning) (rows : List Row) (before after : List Step) (r : Judgement) : Type 0 where
-  pub verdict : Result Verdict Fault
-  pub judged : JudgedBy letter m rows before after verdict
-  pub told : r ≡ judgement_of verdict
+abbrev pub OrderJudged : Outcome → List Step → List Step → Result Verdict Fault → Type 0
+OrderJudged (Ok order) before after r = JudgedBy order.letter order.board order.rows before after r
+OrderJudged (Err fault) before after r = (r ≡ Err fault) × (after ≡ before)
 
-abbrev pub FileJudged : Outcome → List Step → List Step → Judgement → Type 0
-FileJudged (Ok order) before after r = SlotsJudged order.letter order.board order.rows before after r
-FileJudged (Err fault) before after r = (r ≡ judgement_of (Err fault)) × (after ≡ before)
+pub record FileJudged (outcome : Outcome) (before after : List Step) (r : Judgement) : Type 0 where
+  pub verdict : Result Verdict Fault
+  pub judged : OrderJudged outcome before after verdict
+  pub told : r ≡ judgement_of verdict
 
 -- the file of a board with a fairest plan on it is written, or refused as writing is
 pub record PlanWritten (compare : Comparison) (letter : ℕ) (m : Meaning) (rows : List Row) (before after : List ℕ) (r : Result ℕ Fault) : Type 0 where
@@ -53,34 +53,40 @@ pub record PlanWritten (compare : Comparison) (letter : ℕ) (m : Meaning) (rows
   pub written : Written letter rows (planned m held) before after r
 
 -- the same under the rule of the letter, with the weights of the tasks
-pub record PlanWrittenBy (letter : ℕ) (m : Meaning) (rows : List Row) (before after : List ℕ) (r : Result ℕ Fault) : Type 0 where
-  pub weights : List ℕ
-  pub weighed : (task : ℕ) → slice_index_or weights task 1 ≡ weight_in rows task
-  pub written : PlanWritten (rule_of letter weights) letter m rows before after r
+abbrev pub PlanWrittenBy : ℕ → Meaning → List Row → List ℕ → List ℕ → Result ℕ Fault → Type 0
+PlanWrittenBy letter m rows before after r = ByLetter letter rows (λ compare. PlanWritten compare letter m rows before after r)
 
-pub record OrderPlanned (letter : ℕ) (m : Meaning) (rows : List Row) (before after : List ℕ) (r : Answer) : Type 0 where
+-- the plan of an accepted file is written; of any other the fault is told, and the output is as it was
+abbrev pub OrderPlanned : Outcome → List ℕ → List ℕ → Result ℕ Fault → Type 0
+OrderPlanned (Ok order) before after r = PlanWrittenBy order.letter order.board order.rows before after r
+OrderPlanned (Err fault) before after r = (r ≡ Err fault) × (after ≡ before)
+
+pub record FilePlanned (outcome : Outcome) (before after : List ℕ) (r : Answer) : Type 0 where
   pub wrote : Result ℕ Fault
-  pub planned : PlanWrittenBy letter m rows before after wrote
+  pub planned : OrderPlanned outcome before after wrote
   pub told : r ≡ answer_of wrote
-
-abbrev pub FilePlanned : Outcome → List ℕ → List ℕ → Answer → Type 0
-FilePlanned (Ok order) before after r = OrderPlanned order.letter order.board order.rows before after r
-FilePlanned (Err fault) before after r = (r ≡ refused_for fault) × (after ≡ before)
-
--- there was not memory enough to make the text
-abbrev pub no_memory : Answer
-no_memory = record { number = 255; layer = 0; place = 0; length = 0 }
 
 abbrev pub too_short : ℕ → ℕ → Option Refusal
 too_short room long = cond (nat_lt room long) (Some OutputTooShort) None
 
+-- a fault in writing is a reason for no plan
+abbrev pub unshown : Result ℕ Fault → Result ℕ NoPlan
+unshown (Ok length) = Ok length
+unshown (Err fault) = Err (Refused fault)
+
 -- the text stands at the output's front, or the output is too short for it and as it was
-pub record TextGiven (letter : ℕ) (m : Meaning) (rows : List Row) (before after : List ℕ) (r : Answer) : Type 0 where
+pub record TextGiven (letter : ℕ) (m : Meaning) (rows : List Row) (before after : List ℕ) (r : Result ℕ NoPlan) : Type 0 where
   pub text : List ℕ
   pub shown : ShownBy letter m rows text
-  pub told : r ≡ answer_of (told (too_short (length before) (length text)) (length text))
+  pub told : r ≡ unshown (told (too_short (length before) (length text)) (length text))
   pub left : after ≡ left (too_short (length before) (length text)) text before
 
-abbrev pub FileShown : Outcome → List ℕ → List ℕ → Answer → Type 0
-FileShown (Ok order) before after r = TextGiven order.letter order.board order.rows before after r ⊎ ((r ≡ no_memory) × (after ≡ before))
-FileShown (Err fault) before after r = (r ≡ refused_for fault) × (after ≡ before)
+-- the text of an accepted file's plan is given, or there was no memory for it; of any other the fault is told, and the output is as it was
+abbrev pub OrderShown : Outcome → List ℕ → List ℕ → Result ℕ NoPlan → Type 0
+OrderShown (Ok order) before after r = TextGiven order.letter order.board order.rows before after r ⊎ ((r ≡ Err OutOfMemory) × (after ≡ before))
+OrderShown (Err fault) before after r = (r ≡ Err (Refused fault)) × (after ≡ before)
+
+pub record FileShown (outcome : Outcome) (before after : List ℕ) (r : Answer) : Type 0 where
+  pub wrote : Result ℕ NoPlan
+  pub shown : OrderShown outcome before after wrote
+  pub told : r ≡ shown_of wrote

@@ -6,9 +6,9 @@ ghost use Rattle.order_writer.specs.Writing.{told, left};
 ghost use Rattle.reporting.specs.Reports.{outcome_of};
 ghost use Rattle.board.specs.Boards.{Good};
 ghost use Rattle.tasks.specs.Table.{rows};
-ghost use Rattle.c_calls.specs.Answers.{done as done_with, refused_for, answer_of, check_of};
-ghost use Rattle.c_calls.specs.Orders.{BoardFor};
-ghost use Rattle.c_calls.specs.Results.{judgement_of, JudgedBy, FileJudged, PlanWritten, PlanWrittenBy, FilePlanned, no_memory, too_short, FileShown};
+ghost use Rattle.c_calls.specs.Answers.{check_of, accepted};
+ghost use Rattle.c_calls.specs.Orders.{OrderRead};
+ghost use Rattle.c_calls.specs.Results.{OrderJudged, FileJudged, PlanWritten, OrderPlanned, FilePlanned, too_short, OrderShown, FileShown};
 
 pub mod answers;
 
@@ -16,11 +16,12 @@ use answers::{Answer, Judgement};
 use board::Board;
 use board::fault::{Fault, Refusal};
 use judge::{Verdict, judge};
+use letters::rule_of;
 use orderfile::{read, sizes};
 use plan::states::WorkingPlan;
-use reporting::show_by_letter;
+use reporting::{NoPlan, show_by_letter};
 use routes::Step;
-use rules::{ByNeed, Even, Rule, Weighted};
+use rules::Rule;
 use std::alloc::Global;
 use table_board::TableBoard;
 use tasks::table::TaskTable;
@@ -28,43 +29,27 @@ use tasks::table::TaskTable;
 // The numbers that a table of 64 tasks and 16 cores takes.
 const TABLE_NUMBERS: usize = 2064;
 
-// A clear board for the file's tasks and cores.
-fn board_for<'a>(file: &[u8], cells: &'a mut [u16; TABLE_NUMBERS]) -> Result<TableBoard<'a>, Fault>
-    ensures { BoardFor (outcome_of file.now) file.now result }
+// The letter of the file's order, and the order on a board of its own; its tasks are put into the table.
+fn read_order<'a>(
+    file: &[u8],
+    cells: &'a mut [u16; TABLE_NUMBERS],
+    tasks: &mut TaskTable,
+) -> Result<(u8, TableBoard<'a>), Fault>
+    ensures { OrderRead (outcome_of file.now) (rows tasks.new) result }
 {
     let (_, n, m) = sizes(file)?;
-    Ok(TableBoard::make(n as usize, m as usize, cells))
+    let mut board = TableBoard::make(n as usize, m as usize, cells);
+    let letter = read(file, &mut board, tasks)?;
+    Ok((letter, board))
 }
 
-fn done(length: usize) -> Answer
-    ensures { result ≡ done_with length }
+fn accept(file: &[u8]) -> Result<usize, Fault>
+    ensures { result ≡ accepted (outcome_of file.now) }
 {
-    Answer {
-        number: 0,
-        layer: 0,
-        place: 0,
-        length,
-    }
-}
-
-fn refused(fault: Fault) -> Answer
-    ensures { result ≡ refused_for fault }
-{
-    Answer {
-        number: fault.number(),
-        layer: fault.layer(),
-        place: fault.place,
-        length: 0,
-    }
-}
-
-fn answer(wrote: Result<usize, Fault>) -> Answer
-    ensures { result ≡ answer_of wrote }
-{
-    match wrote {
-        Ok(length) => done(length),
-        Err(fault) => refused(fault),
-    }
+    let mut cells = [0; TABLE_NUMBERS];
+    let mut tasks = TaskTable::new();
+    read_order(file, &mut cells, &mut tasks)?;
+    Ok(0)
 }
 
 // Whether the file is accepted, or why it is not.
@@ -72,62 +57,17 @@ fn answer(wrote: Result<usize, Fault>) -> Answer
 pub extern "C" fn bikstaru_check(file: &[u8]) -> Answer
     ensures { result ≡ check_of (outcome_of file.now) }
 {
+    Answer::from(accept(file))
+}
+
+// Judges the slots of the file under the rule of its letter.
+fn judge_order(file: &[u8], route: &mut [Step]) -> Result<Verdict, Fault>
+    ensures { OrderJudged (outcome_of file.now) route.old route.new result }
+{
     let mut cells = [0; TABLE_NUMBERS];
-    let mut board = match board_for(file, &mut cells) {
-        Ok(board) => board,
-        Err(fault) => return refused(fault),
-    };
     let mut tasks = TaskTable::new();
-    match read(file, &mut board, &mut tasks) {
-        Ok(_) => done(0),
-        Err(fault) => refused(fault),
-    }
-}
-
-fn judgement(verdict: Result<Verdict, Fault>) -> Judgement
-    ensures { result ≡ judgement_of verdict }
-{
-    let mut told = Judgement {
-        answer: done(0),
-        verdict: 0,
-        core: 0,
-        task: 0,
-        steps: 0,
-        loser: 0,
-    };
-    match verdict {
-        Ok(Verdict::Passed) => {}
-        Ok(Verdict::Free { core, task }) => {
-            told.verdict = 1;
-            told.core = core;
-            told.task = task;
-        }
-        Ok(Verdict::Route { steps, loser }) => {
-            told.verdict = 2;
-            told.steps = steps;
-            told.loser = loser;
-        }
-        Err(fault) => told.answer = refused(fault),
-    }
-    told
-}
-
-// Judges the board's slots under the rule that the letter names.
-fn judge_by_letter<B: Board>(
-    board: &B,
-    letter: u8,
-    tasks: &TaskTable,
-    route: &mut [Step],
-) -> Result<Verdict, Fault>
-    requires { Good B.build board.now }
-    ensures { JudgedBy letter (B.build.meaning board.now) (rows tasks.now) route.old route.new result }
-{
-    let weights = tasks.weights();
-    match letter as char {
-        'e' => judge(board, Even, route),
-        'w' => judge(board, Weighted::new(weights), route),
-        _ => judge(board, ByNeed, route),
-    }
+    let (letter, board) = read_order(file, &mut cells, &mut tasks)?;
+    judge(&board, rule_of(letter, &tasks), route)
 }
 
 // The judge's verdict on the slots of the file; a route is written to the first entries of the list.
@@ -135,16 +75,7 @@ fn judge_by_letter<B: Board>(
 pub extern "C" fn bikstaru_judge(file: &[u8], route: &mut [Step]) -> Judgement
     ensures { FileJudged (outcome_of file.now) route.old route.new result }
 {
-    let mut cells = [0; TABLE_NUMBERS];
-    let mut board = match board_for(file, &mut cells) {
-        Ok(board) => board,
-        Err(fault) => return judgement(Err(fault)),
-    };
-    let mut tasks = TaskTable::new();
-    match read(file, &mut board, &mut tasks) {
-        Ok(letter) => judgement(judge_by_letter(&board, letter, &tasks, route)),
-        Err(fault) => judgement(Err(fault)),
-    }
+    Judgement::from(judge_order(file, route))
 }
 
 // Makes the plan on the board, and writes the order with it.
@@ -162,21 +93,15 @@ fn write_plan<B: Board, R: Rule>(
     plan.release().write(tasks, letter, out)
 }
 
-fn write_by_letter<B: Board>(
-    board: &mut B,
-    letter: u8,
-    tasks: &TaskTable,
-    out: &mut [u8],
-) -> Result<usize, Fault>
-    requires { Good B.build board.old }
-    ensures { PlanWrittenBy letter (B.build.meaning board.old) (rows tasks.now) out.old out.new result }
+// Makes the fairest plan of the file's order under the rule of its letter, and writes the order with it.
+fn plan_order(file: &[u8], out: &mut [u8]) -> Result<usize, Fault>
+    ensures { OrderPlanned (outcome_of file.now) out.old out.new result }
 {
-    let weights = tasks.weights();
-    match letter as char {
-        'e' => write_plan(board, Even, letter, tasks, out),
-        'w' => write_plan(board, Weighted::new(weights), letter, tasks, out),
-        _ => write_plan(board, ByNeed, letter, tasks, out),
-    }
+    let mut cells = [0; TABLE_NUMBERS];
+    let mut tasks = TaskTable::new();
+    let (letter, mut board) = read_order(file, &mut cells, &mut tasks)?;
+    let rule = rule_of(letter, &tasks);
+    write_plan(&mut board, rule, letter, &tasks, out)
 }
 
 // Makes the fairest plan of the file's order, and writes the order with it as an order file.
@@ -184,16 +109,7 @@ fn write_by_letter<B: Board>(
 pub extern "C" fn bikstaru_plan(file: &[u8], out: &mut [u8]) -> Answer
     ensures { FilePlanned (outcome_of file.now) out.old out.new result }
 {
-    let mut cells = [0; TABLE_NUMBERS];
-    let mut board = match board_for(file, &mut cells) {
-        Ok(board) => board,
-        Err(fault) => return refused(fault),
-    };
-    let mut tasks = TaskTable::new();
-    match read(file, &mut board, &mut tasks) {
-        Ok(letter) => answer(write_by_letter(&mut board, letter, &tasks, out)),
-        Err(fault) => refused(fault),
-    }
+    Answer::from(plan_order(file, out))
 }
 
 // Puts the text at the output's front, and answers its length.
@@ -209,16 +125,16 @@ fn put_text(text: &[u8], out: &mut [u8]) -> Result<usize, Fault>
     Ok(long)
 }
 
-// There was not memory enough to make the text.
-fn out_of_memory() -> Answer
-    ensures { result ≡ no_memory }
+// The report of the file's fairest plan, put into the output.
+fn show_order(heap: Global, file: &[u8], out: &mut [u8]) -> Result<usize, NoPlan>
+    ensures { OrderShown (outcome_of file.now) out.old out.new result }
 {
-    Answer {
-        number: 255,
-        layer: 0,
-        place: 0,
-        length: 0,
-    }
+    let mut cells = [0; TABLE_NUMBERS];
+    let mut tasks = TaskTable::new();
+    let (letter, mut board) = read_order(file, &mut cells, &mut tasks)?;
+    let text = show_by_letter(heap, &mut board, letter, &tasks)?;
+    let long = put_text(text.as_bytes(), out)?;
+    Ok(long)
 }
 
 // The report of the file's fairest plan. Its text is made in the caller's heap, and then put into the output.
@@ -226,17 +142,5 @@ fn out_of_memory() -> Answer
 pub extern "C" fn bikstaru_report(heap: Global, file: &[u8], out: &mut [u8]) -> Answer
     ensures { FileShown (outcome_of file.now) out.old out.new result }
 {
-    let mut cells = [0; TABLE_NUMBERS];
-    let mut board = match board_for(file, &mut cells) {
-        Ok(board) => board,
-        Err(fault) => return refused(fault),
-    };
-    let mut tasks = TaskTable::new();
-    match read(file, &mut board, &mut tasks) {
-        Ok(letter) => match show_by_letter(heap, &mut board, letter, &tasks) {
-            Ok(text) => answer(put_text(text.as_slice(), out)),
-            Err(_) => out_of_memory(),
-        },
-        Err(fault) => refused(fault),
-    }
+    Answer::from(show_order(heap, file, out))
 }

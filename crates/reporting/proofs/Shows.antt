@@ -1,23 +1,18 @@
--- A plan on a board is a plan for the board's order, and its slots are those of all cores; and which outcome a file came to.
-use Rattle.std.proofs.Common.{◌≡◌, ℕ, ◌+◌, ◌*◌, ◌<◌, ◌≤◌, min, true, false, cond, List, length, get_or, Ok, Err, Result, sym, refl, ap, ◌∙◌, subst, arith}
+-- A plan on a board is a plan for the board's order, and its slots are those of all cores.
+use Rattle.std.proofs.Common.{◌≡◌, ℕ, ◌+◌, ◌<◌, ◌≤◌, true, List, length, get_or, sym, ap, ◌∙◌, subst, arith}
 use Rattle.fairness.specs.Laws.{Comparison}
 use Rattle.fairness.specs.Sums.{sum_to}
 use Rattle.fairness.proofs.Sums.{sum-le, sum-eq, sum-add, sum-swap, sum-at}
-use Rattle.board.specs.declared.fault.Fault.{Fault}
-use Rattle.board.specs.Meaning.{Meaning, Sound, SameOrder, planned, given_at, free_at, total_of, free_slots, new_board, most_slots, most_tasks}
+use Rattle.board.specs.Meaning.{Meaning, Sound, SameOrder, planned, given_at, free_at, total_of, free_slots, most_tasks}
 use Rattle.board.proofs.Bounds.{sum_bound, held_small}
-use Rattle.pair_board.specs.Pairs.{pair_fits}
 use Rattle.tasks.specs.Rows.{Row, sound}
 use Rattle.tasks.specs.Table.{name_in}
 use Rattle.tasks.proofs.Steps.{sound-name}
-use Rattle.orders.specs.Steps.{then}
-use Rattle.orderfile.specs.Sizes.{sizes_of}
-use Rattle.orders.specs.Reads.{Outcome, read_of, letter_of, board_of, rows_of}
 use Rattle.levelling.specs.Levelled.{FairestOn}
 use Rattle.plan.specs.Plans.{Totals}
 use Rattle.summary.specs.Lines.{task_line, slots_of, share_lines, report_lines}
 use Rattle.summary.proofs.Widths.{task-width, free-width}
-use Rattle.reporting.specs.Reports.{Aligned, Shown, ShownBy, Reported, board_for, outcome_of, capacities}
+use Rattle.reporting.specs.Reports.{Aligned, Shown, capacities}
 
 -- what the tasks of a fairest plan hold and what is free make up all capacities
 pub slots-of-all : (compare : Comparison) (m : Meaning) (totals : List ℕ) → m.tasks ≤ most_tasks → FairestOn compare m → Totals m totals
@@ -65,35 +60,3 @@ plan-shown compare m now rows totals text free fit fine few all order fairest li
       shares = printed ∙ ap (λ z. share_lines rows totals z (free_slots shown)) (ap (λ n. slots_of totals n (free_slots shown)) all ∙ slots-of-all compare shown totals few (subst P order fairest) (subst Q order listed));
       aligned = lines-aligned compare shown rows totals (subst Sound order fit) (subst P order fairest) fine all (subst Q order listed);
     }
-
--- a letter was answered, so the file gave an order: this board and these rows
-pub order-shown : (outcome : Outcome) (old now : Meaning) (rows : List Row) (letter : ℕ) (text : List ℕ) → Ok letter ≡ letter_of outcome → now ≡ board_of old outcome → rows ≡ rows_of outcome
-    → ShownBy letter now rows text → Reported outcome false text
-order-shown (Ok order) old now rows letter text told left listed shown =
-    let e : letter ≡ order.letter = ap (λ (r : Result ℕ Fault). elim r [ Ok l ↦ l | Err f ↦ 0 ]) told in
-    let P : ℕ → Type 0 = λ z. ShownBy z order.board order.rows text in
-    let Q : Meaning → Type 0 = λ z. ShownBy letter z order.rows text in
-    let R : List Row → Type 0 = λ z. ShownBy letter now z text in
-    (refl, subst P e (subst Q left (subst R listed shown)))
-order-shown (Err fault) old now rows letter text told left listed shown = absurd (subst IsOk told tt)
-  where
-    IsOk : Result ℕ Fault → Type 0
-    IsOk (Ok l) = Unit {0}
-    IsOk (Err f) = ⊥
-
--- a fault was answered, so that is what the file came to
-pub outcome-fault : (outcome : Outcome) (fault : Fault) → Err fault ≡ letter_of outcome → outcome ≡ Err fault
-outcome-fault (Ok order) fault told = absurd (subst IsErr told tt)
-  where
-    IsErr : Result ℕ Fault → Type 0
-    IsErr (Ok l) = ⊥
-    IsErr (Err f) = Unit {0}
-outcome-fault (Err other) fault told = ap (λ (r : Result ℕ Fault). elim r [ Ok l ↦ Err fault | Err f ↦ Err f ]) (sym told)
-
--- the sizes were told and the board was made, so the file gives what it gives on that board
-pub outcome-is : (file : List ℕ) (told : ℕ × ℕ × ℕ) (m : Meaning) (long : ℕ) → Ok told ≡ sizes_of file → long ≡ 1024
-    → m ≡ cond (pair_fits told.1 told.2 long) (new_board told.1 told.2 (min long (told.1 * told.2)) most_slots) (new_board 0 0 0 most_slots)
-    → outcome_of file ≡ read_of m file
-outcome-is file told m long sized all made =
-    let e : m ≡ board_for told.1 told.2 = made ∙ ap (λ z. cond (pair_fits told.1 told.2 z) (new_board told.1 told.2 (min z (told.1 * told.2)) most_slots) (new_board 0 0 0 most_slots)) all in
-    ap (λ r. then r (λ (t : ℕ × ℕ × ℕ). read_of (board_for t.1 t.2) file)) (sym sized) ∙ ap (λ z. read_of z file) (sym e)

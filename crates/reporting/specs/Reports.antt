@@ -1,20 +1,23 @@
 -- What the report of an order file says.
-use Rattle.std.specs.Prelude.{◌≡◌, ℕ, ◌*◌, ◌<◌, min, Bool, true, false, cond, List, length, Ok, Err, ◌==◌, slice_index, slice_index_or}
+use Rattle.std.specs.Prelude.{◌≡◌, ℕ, ◌*◌, ◌<◌, min, cond, List, length, Ok, Err, Result, String, string_bytes, slice_index}
 use Rattle.fairness.specs.Sums.{sum_to}
-use Rattle.fairness.specs.Plans.{Plan}
+use Rattle.fairness.specs.Plans as plans
 use Rattle.fairness.specs.Laws.{Comparison}
-use Rattle.fairness.specs.Even.{even}
-use Rattle.rules.specs.Comparisons.{weighted, by_need}
 use Rattle.board.specs.Meaning.{Meaning, planned, free_slots, new_board, most_slots}
-use Rattle.board.specs.Refusals.{number_of, layer_of}
+use Rattle.std.specs.declared.alloc.Global.{Global}
+use Rattle.letters.specs.Letters.{ByLetter}
 use Rattle.pair_board.specs.Pairs.{pair_fits}
 use Rattle.tasks.specs.Rows.{Row}
-use Rattle.tasks.specs.Table.{name_in, weight_in}
+use Rattle.tasks.specs.Table.{name_in}
 use Rattle.orders.specs.Steps.{then}
 use Rattle.orderfile.specs.Sizes.{sizes_of}
 use Rattle.orders.specs.Reads.{Outcome, read_of}
 use Rattle.levelling.specs.Levelled.{FairestOn}
 use Rattle.plan.specs.Plans.{Totals}
+use Rattle.reporting.specs.declared.NoPlan.{NoPlan}
+use Rattle.reporting.specs.declared.NoPlan.TheVariants.{Refused, OutOfMemory}
+use Rattle.reporting.specs.declared.Report.{Report}
+use Rattle.reporting.specs.declared.Report.TheVariants.{Plan, Refusal}
 use Rattle.summary.specs.Lines.{task_line, free_line, report_lines, share_lines, refusal_line}
 
 -- the pair board that is made for n tasks and m cores in 1,024 entries
@@ -24,10 +27,6 @@ board_for n m = cond (pair_fits n m 1024) (new_board n m (min 1024 (n * m)) most
 -- what a file gives on a board of its own tasks and cores: an order, or the first fault
 abbrev pub outcome_of : List ℕ → Outcome
 outcome_of file = then (sizes_of file) (λ told. read_of (board_for told.1 told.2) file)
-
--- the rule that a letter names: e even, w weighted, else by need
-abbrev pub rule_of : ℕ → List ℕ → Comparison
-rule_of letter weights = cond (letter == 101) even (cond (letter == 119) (weighted weights) by_need)
 
 -- the slots of all cores together
 abbrev pub capacities : Meaning → ℕ
@@ -40,7 +39,7 @@ pub record Aligned (rows : List Row) (totals : List ℕ) (slots free : ℕ) : Ty
 
 -- the text shows a plan that is fairest for the needs and capacities of a board
 pub record Shown (compare : Comparison) (m : Meaning) (rows : List Row) (text : List ℕ) : Type 0 where
-  pub held : Plan
+  pub held : plans.Plan
   pub fairest : FairestOn compare (planned m held)
   pub totals : List ℕ
   pub listed : Totals (planned m held) totals
@@ -50,12 +49,18 @@ pub record Shown (compare : Comparison) (m : Meaning) (rows : List Row) (text : 
   pub aligned : Aligned rows totals (capacities m) (free_slots (planned m held))
 
 -- the same under the rule of the letter, with the weights of the task table
-pub record ShownBy (letter : ℕ) (m : Meaning) (rows : List Row) (text : List ℕ) : Type 0 where
-  pub weights : List ℕ
-  pub weighed : (task : ℕ) → slice_index_or weights task 1 ≡ weight_in rows task
-  pub shown : Shown (rule_of letter weights) m rows text
+abbrev pub ShownBy : ℕ → Meaning → List Row → List ℕ → Type 0
+ShownBy letter m rows text = ByLetter letter rows (λ compare. Shown compare m rows text)
+
+-- what a file came to: the text of its plan, the fault that it is refused for, or want of memory for the text
+abbrev pub PlanTold : Outcome → Result (String Global) NoPlan → Type 0
+PlanTold (Ok order) (Ok text) = ShownBy order.letter order.board order.rows (string_bytes text)
+PlanTold (Ok order) (Err why) = why ≡ OutOfMemory
+PlanTold (Err fault) r = r ≡ Err (Refused fault)
 
 -- a file that gives an order is answered with its plan, and any other with the line of its fault
-abbrev pub Reported : Outcome → Bool → List ℕ → Type 0
-Reported (Ok order) refused text = (refused ≡ false) × ShownBy order.letter order.board order.rows text
-Reported (Err fault) refused text = (refused ≡ true) × (text ≡ refusal_line (number_of fault.refusal) (layer_of fault.refusal) fault.place)
+abbrev pub Reported : Outcome → Report → Type 0
+Reported (Ok order) (Plan text) = ShownBy order.letter order.board order.rows (string_bytes text)
+Reported (Ok order) (Refusal line) = ⊥
+Reported (Err fault) (Plan text) = ⊥
+Reported (Err fault) (Refusal line) = string_bytes line ≡ refusal_line fault

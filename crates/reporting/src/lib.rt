@@ -1,18 +1,20 @@
 // The report of an order file: the file is read onto a pair board, the plan is made, and its text is written.
 #![tactic(auto)]
 
-ghost use Rattle.std.specs.Prelude.{◌≡◌, length, IfOk, Err};
+ghost use Rattle.std.specs.Prelude.{◌≡◌, length, IfOk, string_bytes};
 ghost use Rattle.board.specs.Boards.{Good};
 ghost use Rattle.tasks.specs.Table.{rows};
-ghost use Rattle.reporting.specs.Reports.{Shown, ShownBy, Reported, outcome_of};
+ghost use Rattle.reporting.specs.declared.NoPlan.TheVariants.{Refused, OutOfMemory};
+ghost use Rattle.reporting.specs.Reports.{Shown, ShownBy, PlanTold, Reported, outcome_of};
 
 use board::Board;
 use board::fault::Fault;
+use letters::rule_of;
 use orderfile::{read, sizes};
 use pair_board::PairBoard;
-use pair_board::entry::Entry;
+use pair_board::entry::BLANK;
 use plan::states::WorkingPlan;
-use rules::{ByNeed, Even, Rule, Weighted};
+use rules::Rule;
 use std::alloc::{AllocError, Global};
 use summary::{refusal_text, report_text};
 use tasks::table::TaskTable;
@@ -20,11 +22,34 @@ use tasks::table::TaskTable;
 // An entry for each pair of 64 tasks and 16 cores.
 const ENTRIES: usize = 1024;
 
+// What is printed of a file: the text of its plan, or the line of its refusal.
 #[derive(Drop)]
-pub struct Report {
-    pub text: Vec<u8>,
-    // The file was refused, and the text is the refusal's line.
-    pub refused: bool,
+pub enum Report {
+    Plan(String),
+    Refusal(String),
+}
+
+// Why no plan is shown.
+#[derive(Clone, Copy, PartialEq, Eq, Debug, Drop)]
+pub enum NoPlan {
+    Refused(Fault),
+    OutOfMemory,
+}
+
+impl From<Fault> for NoPlan {
+    ghost from_gives = { λ fault e. e ≡ Refused fault };
+
+    fn from(fault: Fault) -> NoPlan {
+        NoPlan::Refused(fault)
+    }
+}
+
+impl From<AllocError> for NoPlan {
+    ghost from_gives = { λ _ e. e ≡ OutOfMemory };
+
+    fn from(_: AllocError) -> NoPlan {
+        NoPlan::OutOfMemory
+    }
 }
 
 // Makes the plan on the board, and writes its text.
@@ -33,17 +58,16 @@ fn show_plan<B: Board, R: Rule>(
     board: &mut B,
     rule: R,
     tasks: &TaskTable,
-) -> Result<Vec<u8>, AllocError>
+) -> Result<String, AllocError>
     requires good { Good B.build board.old }
     requires listed { length (rows tasks.now) ≡ (B.build.meaning board.old).tasks }
-    ensures { IfOk result (λ text. Shown (R.order rule) (B.build.meaning board.old) (rows tasks.now) text.items) }
+    ensures { IfOk result (λ text. Shown (R.order rule) (B.build.meaning board.old) (rows tasks.now) (string_bytes text)) }
 {
     let plan = WorkingPlan::make(board, rule);
     let totals = plan.totals();
     let free = plan.free_slots();
     plan.end();
-    let text = report_text(heap, tasks, &totals, free)?;
-    Ok(text)
+    report_text(heap, tasks, &totals, free)
 }
 
 // Makes the plan on the board under the rule that the letter names, and writes its text.
@@ -52,53 +76,34 @@ pub fn show_by_letter<B: Board>(
     board: &mut B,
     letter: u8,
     tasks: &TaskTable,
-) -> Result<Vec<u8>, AllocError>
+) -> Result<String, AllocError>
     requires good { Good B.build board.old }
     requires listed { length (rows tasks.now) ≡ (B.build.meaning board.old).tasks }
-    ensures { IfOk result (λ text. ShownBy letter (B.build.meaning board.old) (rows tasks.now) text.items) }
+    ensures { IfOk result (λ text. ShownBy letter (B.build.meaning board.old) (rows tasks.now) (string_bytes text)) }
 {
-    let weights = tasks.weights();
-    match letter as char {
-        'e' => show_plan(heap, board, Even, tasks),
-        'w' => show_plan(heap, board, Weighted::new(weights), tasks),
-        _ => show_plan(heap, board, ByNeed, tasks),
-    }
+    show_plan(heap, board, rule_of(letter, tasks), tasks)
+}
+
+// Reads the file, makes its plan, and writes the plan's text.
+fn plan_text(heap: Global, file: &[u8]) -> Result<String, NoPlan>
+    ensures { PlanTold (outcome_of file.now) result }
+{
+    let (_, n, m) = sizes(file)?;
+    let mut entries = [BLANK; ENTRIES];
+    let mut board = PairBoard::make(n as usize, m as usize, &mut entries);
+    let mut tasks = TaskTable::new();
+    let letter = read(file, &mut board, &mut tasks)?;
+    let text = show_by_letter(heap, &mut board, letter, &tasks)?;
+    Ok(text)
 }
 
 // The report of a file, or the line of its refusal.
 pub fn report_of(heap: Global, file: &[u8]) -> Result<Report, AllocError>
-    ensures { IfOk result (λ report. Reported (outcome_of file.now) report.refused report.text.items) }
+    ensures { IfOk result (λ report. Reported (outcome_of file.now) report) }
 {
-    let (n, m) = match sizes(file) {
-        Ok((_, n, m)) => (n as usize, m as usize),
-        Err(fault) => return refuse(heap, fault),
-    };
-    let mut entries = [Entry {
-        task: 0,
-        core: 0,
-        need: 0,
-        held: 0,
-    }; ENTRIES];
-    let mut board = PairBoard::make(n, m, &mut entries);
-    let mut tasks = TaskTable::new();
-    match read(file, &mut board, &mut tasks) {
-        Ok(letter) => {
-            let text = show_by_letter(heap, &mut board, letter, &tasks)?;
-            Ok(Report {
-                text,
-                refused: false,
-            })
-        }
-        Err(fault) => refuse(heap, fault),
+    match plan_text(heap, file) {
+        Ok(text) => Ok(Report::Plan(text)),
+        Err(NoPlan::Refused(fault)) => Ok(Report::Refusal(refusal_text(heap, fault)?)),
+        Err(NoPlan::OutOfMemory) => Err(AllocError),
     }
-}
-
-fn refuse(heap: Global, fault: Fault) -> Result<Report, AllocError>
-    ensures { IfOk result (λ report. Reported (Err fault) report.refused report.text.items) }
-{
-    let text = refusal_text(heap, fault)?;
-    Ok(Report {
-        text,
-        refused: true,
-    })
 }

@@ -11,6 +11,7 @@ pub fn fill(rt: &HostRuntime, buffer: &mut [u8]) -> io::Result<usize>
     ensures { IfOk result (λ count. count ≤ length buffer.new) }
 {
     let mut input = rt.stdin();
+    // The buffer is lent, so a position moves along it: `read_exact` tells no count, and `read_to_end` wants a vector.
     let mut have = 0;
     while have < buffer.len() {
         let more = input.read(&mut buffer[have..])?;

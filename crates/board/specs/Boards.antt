@@ -1,7 +1,7 @@
 -- What is asked of a board of any build, and what its calls give back.
 use Rattle.std.specs.Prelude.{◌≡◌, Result}
 use Rattle.board.specs.declared.fault.Fault.{Fault}
-use Rattle.board.specs.Meaning.{Meaning, Sound, cleared}
+use Rattle.board.specs.Meaning.{Meaning, Sound, SameOrder, cleared}
 use Rattle.board.specs.Outcomes.{Outcome, done, refused, answered, after}
 
 -- what holds over any number of calls
@@ -28,6 +28,11 @@ pub record Good {S : Type 0} (build : Build S) (board : S) : Type 0 where
 pub record Went {S : Type 0} (build : Build S) (a b : S) : Type 0 where
   pub good : Good build b
   pub keeps : build.kept a b
+
+-- and of all that it says, only the slots held are others
+pub record Rearranged {S : Type 0} (build : Build S) (a b : S) : Type 0 where
+  pub went : Went build a b
+  pub order : SameOrder (build.meaning a) (build.meaning b)
 
 -- refused, the board is the same in value and memory
 abbrev pub UnlessDone : Outcome → Type 0 → Type 0

@@ -3,7 +3,7 @@
 
 ghost use Rattle.std.specs.Prelude.{◌≡◌, ℕ, ◌+◌, ◌<◌, ◌≤◌, min, Ok};
 ghost use Rattle.board.specs.Meaning.{Meaning, SameOrder, with_held, with_need, with_capacity, given_at};
-ghost use Rattle.board.specs.Boards.{Good, Went};
+ghost use Rattle.board.specs.Boards.{Good, Went, Rearranged};
 ghost use Rattle.board.specs.Outcomes.{answered};
 ghost use Rattle.levelling.specs.Levelled.{FairestOn};
 ghost use Rattle.changes.specs.Changes.{plan_need, plan_capacity};
@@ -87,8 +87,7 @@ fn fit_need<B: Board>(board: &mut B, task: usize, core: usize, need: u16)
 fn fit_capacity<B: Board>(board: &mut B, core: usize, capacity: u16)
     requires good { Good B.build board.old }
     requires core { core < (B.build.meaning board.old).cores }
-    ensures went { Went B.build board.old board.new }
-    ensures order { SameOrder (B.build.meaning board.old) (B.build.meaning board.new) }
+    ensures rearranged { Rearranged B.build board.old board.new }
     ensures fits { given_at (B.build.meaning board.new) core ≤ capacity }
 {
     let mut over = board.given(core).saturating_sub(capacity as u32);

@@ -1,4 +1,4 @@
-pub mod Onward
 pub mod Boards
 pub mod Improvements
 pub mod Measure
+pub mod Levelling

@@ -4,6 +4,7 @@ use Rattle.fairness.specs.Laws.{Comparison}
 use Rattle.fairness.specs.Levels.{Fairer, Fairest}
 use Rattle.fairness.specs.Settled.{Settled}
 use Rattle.board.specs.Meaning.{Meaning, SameOrder, given_at, most_cores}
+use Rattle.board.specs.Boards.{Build, Went}
 use Rattle.search.specs.Gains.{NoneFreeOn}
 use Rattle.levelling.specs.declared.FreePair.{FreePair}
 use Rattle.levelling.specs.declared.Improvement.{Improvement}
@@ -12,6 +13,12 @@ use Rattle.levelling.specs.declared.Improvement.TheVariants.{Passed, Taken}
 -- the board's plan is fairest for its needs and capacities
 abbrev pub FairestOn : Comparison → Meaning → Type 0
 FairestOn compare m = Fairest compare m.tasks m.cores m.need m.capacity m.held
+
+-- only slots of the board were moved, and its plan is fairest
+pub record Levelled {S : Type 0} (build : Build S) (compare : Comparison) (a b : S) : Type 0 where
+  pub went : Went build a b
+  pub order : SameOrder (build.meaning a) (build.meaning b)
+  pub fairest : FairestOn compare (build.meaning b)
 
 -- the core has a free slot, and the task holds less than its need there
 pub record FreeFor (m : Meaning) (task core : ℕ) : Type 0 where

@@ -1,8 +1,8 @@
 // Gives out free slots, the most urgent task first. It saves exchanges; that the plan is fairest comes from the improvements
 // that follow, so nothing more is promised here than that the order stays.
 ghost use Rattle.std.specs.Prelude.{◌<◌, IfSome};
-ghost use Rattle.board.specs.Meaning.{SameOrder, most_tasks, most_cores};
-ghost use Rattle.board.specs.Boards.{Good, Went};
+ghost use Rattle.board.specs.Meaning.{most_tasks, most_cores};
+ghost use Rattle.board.specs.Boards.{Good, Rearranged};
 
 use board::{Board, MOST_CORES, MOST_TASKS};
 use fairness::Share;
@@ -94,8 +94,7 @@ impl Filling {
     fn grant<B: Board>(&mut self, board: &mut B, task: usize)
         requires good { Good B.build board.old }
         requires task { task < most_tasks }
-        ensures went { Went B.build board.old board.new }
-        ensures order { SameOrder (B.build.meaning board.old) (B.build.meaning board.new) }
+        ensures { Rearranged B.build board.old board.new }
     {
         let core = self.freest(board, task);
         let free = self.free_for(board, task, core);
@@ -114,8 +113,7 @@ impl Filling {
 // The task takes what it still needs of the core, as far as that is free, but no more than `most`; answers how many.
 fn take_free<B: Board>(board: &mut B, task: usize, core: usize, most: u32) -> u32
     requires { Good B.build board.old }
-    ensures went { Went B.build board.old board.new }
-    ensures order { SameOrder (B.build.meaning board.old) (B.build.meaning board.new) }
+    ensures { Rearranged B.build board.old board.new }
 {
     let held = board.held(task, core);
     let wanted = (board.need(task, core) - held) as u32;
@@ -126,8 +124,7 @@ fn take_free<B: Board>(board: &mut B, task: usize, core: usize, most: u32) -> u3
 
 pub fn give_out<B: Board, R: Rule>(board: &mut B, rule: &R)
     requires { Good B.build board.old }
-    ensures went { Went B.build board.old board.new }
-    ensures order { SameOrder (B.build.meaning board.old) (B.build.meaning board.new) }
+    ensures { Rearranged B.build board.old board.new }
 {
     let mut filling = Filling::of(board);
     let tasks = board.tasks();

@@ -2,9 +2,8 @@
 #![tactic(auto)]
 
 ghost use Rattle.std.specs.Prelude.{IfSome};
-ghost use Rattle.board.specs.Meaning.{SameOrder};
 ghost use Rattle.board.specs.Boards.{Good, Went};
-ghost use Rattle.levelling.specs.Levelled.{FirstFree, Improved, FewSteps, FairestOn};
+ghost use Rattle.levelling.specs.Levelled.{FirstFree, Improved, FewSteps, Levelled};
 
 mod filling;
 mod passing;
@@ -91,9 +90,7 @@ fn improve<B: Board, R: Rule>(
 // as many slots as they can at once; should they not be enough, single slots bring the plan to its end.
 pub fn level<B: Board, R: Rule>(board: &mut B, rule: R)
     requires { Good B.build board.old }
-    ensures went { Went B.build board.old board.new }
-    ensures order { SameOrder (B.build.meaning board.old) (B.build.meaning board.new) }
-    ensures fairest { FairestOn (R.order rule) (B.build.meaning board.new) }
+    ensures { Levelled B.build (R.order rule) board.old board.new }
 {
     give_out(board, &rule);
     let mut steps = [Step { task: 0, core: 0 }; MOST_CORES];

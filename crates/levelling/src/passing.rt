@@ -1,8 +1,7 @@
 // Passes further slots along a route that has made the plan fairer. Like the filling, it only saves searches: nothing more is
 // promised than that the order stays.
 ghost use Rattle.std.specs.Prelude.{◌≤◌};
-ghost use Rattle.board.specs.Meaning.{SameOrder};
-ghost use Rattle.board.specs.Boards.{Good, Went};
+ghost use Rattle.board.specs.Boards.{Good, Rearranged};
 
 use board::{Board, MOST_SLOTS};
 use fairness::Share;
@@ -12,8 +11,7 @@ use search::{Found, MOST_TOTAL, share_of, should_gain};
 
 fn set_slots<B: Board>(board: &mut B, task: usize, core: usize, held: u16)
     requires { Good B.build board.old }
-    ensures went { Went B.build board.old board.new }
-    ensures order { SameOrder (B.build.meaning board.old) (B.build.meaning board.new) }
+    ensures { Rearranged B.build board.old board.new }
 {
     let _ = board.set_held(task, core, held);
 }
@@ -21,8 +19,7 @@ fn set_slots<B: Board>(board: &mut B, task: usize, core: usize, held: u16)
 // The amount goes from the giver to the taker; it is given up first, so that the core is never over its capacity.
 fn shift_many<B: Board>(board: &mut B, taker: usize, core: usize, giver: usize, amount: u16)
     requires { Good B.build board.old }
-    ensures went { Went B.build board.old board.new }
-    ensures order { SameOrder (B.build.meaning board.old) (B.build.meaning board.new) }
+    ensures { Rearranged B.build board.old board.new }
 {
     let less = board.held(giver, core).saturating_sub(amount);
     let more = board.held(taker, core).saturating_add(amount);
@@ -80,8 +77,7 @@ fn fair_amount<R: Rule>(rule: &R, gainer: Share, loser: Share, room: u16) -> u16
 
 pub fn pass_more<B: Board, R: Rule>(board: &mut B, rule: &R, route: &[Step], found: Found)
     requires { Good B.build board.old }
-    ensures went { Went B.build board.old board.new }
-    ensures order { SameOrder (B.build.meaning board.old) (B.build.meaning board.new) }
+    ensures { Rearranged B.build board.old board.new }
 {
     let gainer = share_of(board, found.gainer);
     let loser = share_of(board, found.loser);

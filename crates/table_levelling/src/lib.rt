@@ -2,11 +2,11 @@
 #![tactic(auto)]
 
 ghost use Rattle.std.specs.Prelude.{◌≡◌, ℕ, ◌+◌, ◌<◌, min};
-ghost use Rattle.board.specs.Meaning.{SameOrder, planned};
+ghost use Rattle.board.specs.Meaning.{planned};
 ghost use Rattle.board.specs.Boards.{Good, Went};
 ghost use Rattle.table_board.specs.Table.{table_of, table_build};
 ghost use Rattle.table_levelling.specs.Copies.{tasks_to, lower-settled, raise-settled, ordered, pair_changed, task_changed, all_changed, CanChange, Roomy, Holds, Mirrors};
-ghost use Rattle.levelling.specs.Levelled.{FairestOn};
+ghost use Rattle.levelling.specs.Levelled.{Levelled};
 
 use board::Board;
 use levelling::level;
@@ -161,9 +161,7 @@ fn ordered_table<'a, B: Board>(board: &B, cells: &'a mut [u16; MOST_NUMBERS]) ->
 // Makes the plan on the board fairest. It is levelled on a table, where each number is found at once, and its slots are brought back.
 pub fn level_on_table<B: Board, R: Rule>(board: &mut B, rule: R)
     requires { Good B.build board.old }
-    ensures went { Went B.build board.old board.new }
-    ensures order { SameOrder (B.build.meaning board.old) (B.build.meaning board.new) }
-    ensures fairest { FairestOn (R.order rule) (B.build.meaning board.new) }
+    ensures { Levelled B.build (R.order rule) board.old board.new }
 {
     let mut cells = [0; MOST_NUMBERS];
     let mut table = ordered_table(board, &mut cells);

@@ -1,11 +1,11 @@
 -- One turn of reading, against what a whole reading comes to.
-use Rattle.std.proofs.Common.{◌≡◌, ℕ, zero, suc, ◌+◌, ◌-◌, ◌<◌, ◌≤◌, true, false, cond, List, length, Ok, Err, Result, sym, refl, ap, ◌∙◌, arith}
+use Rattle.std.proofs.Common.{◌≡◌, ℕ, zero, suc, ◌+◌, ◌-◌, ◌<◌, ◌≤◌, false, cond, List, length, Ok, Err, Result, sym, refl, ap, ◌∙◌, arith}
 use Rattle.board.specs.declared.fault.Fault.{Fault}
 use Rattle.board.specs.Meaning.{Meaning, cleared}
 use Rattle.board.specs.Boards.{Build, Good}
 use Rattle.tasks.specs.Rows.{Row}
 use Rattle.records.specs.Wire.{longest_file}
-use Rattle.records.specs.Cuts.{Cut, Walk, cut_at, open_of, finish_at}
+use Rattle.records.specs.Cuts.{Cut, Walk, cut_at, open_of}
 use Rattle.records.proofs.Framing.{found, found-end, begun}
 use Rattle.sections.specs.declared.state.Reader.{Reader}
 use Rattle.sections.specs.Turns.{is_ended}
@@ -16,9 +16,6 @@ use Rattle.orderfile.specs.Reads.{gave}
 -- what stands at `at`, taken in, is the next turn of the run
 unended : (k : ℕ) (s : Reading) (file : List ℕ) (at : ℕ) → is_ended s.reader.section ≡ false → run (suc k) s file at ≡ then (cut_at file at) (λ cut. then (step s cut) (λ next. run k next file (at + 4 + length cut.body)))
 unended k s file at e = ap (λ b. cond b (finished s file at) (then (cut_at file at) (λ cut. then (step s cut) (λ next. run k next file (at + 4 + length cut.body))))) e
-
-pub run-cut : (k : ℕ) (s : Reading) (file : List ℕ) (at : ℕ) (fault : Fault) → is_ended s.reader.section ≡ false → cut_at file at ≡ Err fault → run (suc k) s file at ≡ Err fault
-run-cut k s file at fault n e = unended k s file at n ∙ ap (λ r. then r (λ cut. then (step s cut) (λ next. run k next file (at + 4 + length cut.body)))) e
 
 pub run-refused : (k : ℕ) (s : Reading) (file : List ℕ) (at : ℕ) (cut : Cut) (fault : Fault) → is_ended s.reader.section ≡ false → cut_at file at ≡ Ok cut → step s cut ≡ Err fault → run (suc k) s file at ≡ Err fault
 run-refused k s file at cut fault n e t =
@@ -31,9 +28,6 @@ run_step k s file at cut next n e t =
     unended k s file at n
     ∙ ap (λ r. then r (λ cut. then (step s cut) (λ next. run k next file (at + 4 + length cut.body)))) e
     ∙ ap (λ r. then r (λ next. run k next file (at + 4 + length cut.body))) t
-
-pub run-ended : (k : ℕ) (s : Reading) (file : List ℕ) (at : ℕ) → is_ended s.reader.section ≡ true → run (suc k) s file at ≡ finished s file at
-run-ended k s file at e = ap (λ b. cond b (finished s file at) (then (cut_at file at) (λ cut. then (step s cut) (λ next. run k next file (at + 4 + length cut.body))))) e
 
 -- reading stands at `at`, and what is left of the file gives what the whole gives; there are steps enough for each byte that is left
 pub record Sofar (whole : Result Reading Fault) (s : Reading) (file : List ℕ) (at : ℕ) : Type 0 where
@@ -96,17 +90,5 @@ onward build a b c h j = record { frame = j.frame ∙ h.frame; good = j.good; ke
 pub refused-told : (r : Result ℕ Fault) (m : Meaning) (rs : List Row) (whole : Result Reading Fault) (fault : Fault) → r ≡ Err fault → whole ≡ Err fault → gave r m rs ≡ order_of whole
 refused-told r m rs whole fault e w = ap (λ x. gave x m rs) e ∙ sym (ap order_of w)
 
-pub unopened : (m : Meaning) (rs : List Row) (file : List ℕ) (fault : Fault) → Err fault ≡ open_of file → run_from m rs file ≡ Err fault
-unopened m rs file fault e = sym (ap (λ o. then o (λ walk. run (suc (length file)) (before m rs) walk.file walk.at)) e)
-
-pub ends-cut : (whole : Result Reading Fault) (s : Reading) (file : List ℕ) (at : ℕ) (fault : Fault) → Sofar whole s file at → is_ended s.reader.section ≡ false → Err fault ≡ cut_at file at → whole ≡ Err fault
-ends-cut whole s file at fault h n e = sym h.same ∙ run-cut h.steps s file at fault n (sym e)
-
 pub ends-refused : (whole : Result Reading Fault) (s : Reading) (file : List ℕ) (at : ℕ) (cut : Cut) (fault : Fault) → Sofar whole s file at → is_ended s.reader.section ≡ false → Ok cut ≡ cut_at file at → Err fault ≡ step s cut → whole ≡ Err fault
 ends-refused whole s file at cut fault h n e t = sym h.same ∙ run-refused h.steps s file at cut fault n (sym e) (sym t)
-
-pub ends-followed : (whole : Result Reading Fault) (s : Reading) (file : List ℕ) (at : ℕ) (fault : Fault) → Sofar whole s file at → is_ended s.reader.section ≡ true → Err fault ≡ finish_at file at → whole ≡ Err fault
-ends-followed whole s file at fault h n e = sym h.same ∙ run-ended h.steps s file at n ∙ sym (ap (λ r. then r (λ _. Ok s)) e)
-
-pub ends-well : (whole : Result Reading Fault) (s : Reading) (file : List ℕ) (at : ℕ) → Sofar whole s file at → is_ended s.reader.section ≡ true → Ok tt ≡ finish_at file at → whole ≡ Ok s
-ends-well whole s file at h n e = sym h.same ∙ run-ended h.steps s file at n ∙ sym (ap (λ r. then r (λ _. Ok s)) e)

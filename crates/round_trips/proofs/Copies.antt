@@ -1,5 +1,5 @@
 -- Why a written file is the one that was read, and why a board takes what another has.
-use Rattle.std.proofs.Common.{◌≡◌, ℕ, ◌-◌, ◌≤◌, true, false, cond, not, ◌||◌, eqb, ltb, List, length, take, drop, Some, None, Ok, Err, Option, Result, sym, refl, ap, ◌∙◌, subst, arith}
+use Rattle.std.proofs.Common.{◌≡◌, ℕ, ◌-◌, ◌≤◌, true, cond, not, ◌||◌, eqb, ltb, List, length, take, drop, Some, None, Ok, Err, Option, Result, sym, refl, ap, ◌∙◌, subst, arith}
 use Rattle.std.proofs.lemmas.List.{take_at}
 use Rattle.std.proofs.lemmas.Bool.Decides.{nat_tests}
 use Rattle.board.specs.declared.fault.Fault.{Fault}
@@ -14,21 +14,15 @@ use Rattle.tasks.specs.Rows.{Row, sound}
 use Rattle.tasks.specs.Table.{rows}
 use Rattle.sections.specs.declared.letter.Sharing.{Sharing}
 use Rattle.sections.specs.declared.letter.Sharing.TheVariants.{Even, Weighted, ByNeed}
-use Rattle.sections.specs.Letters.{sharing_of, letter_of}
+use Rattle.sections.specs.Letters.{sharing_of}
 use Rattle.orders.specs.Encoding.{encode, file_of}
-use Rattle.orders.specs.Reads.{Order, Outcome, read_of, letter_of as outcome_letter, board_of, rows_of}
-use Rattle.orders.specs.Laws.{Known, Valid, encoding, Lawful, EncodingsRead}
-use Rattle.orderfile.specs.Reads.{LawfullyRead, gave}
+use Rattle.orders.specs.Reads.{Order, read_of, letter_of as outcome_letter, board_of, rows_of}
+use Rattle.orders.specs.Laws.{Known, Valid, EncodingsRead}
+use Rattle.orderfile.specs.Reads.{LawfullyRead}
 use Rattle.order_writer.specs.Writing.{write_why, lettered, told, left}
-use Rattle.round_trips.specs.Trips.{room_for, Copied, Rewritten, CanHold, carried, Same, Carried}
+use Rattle.round_trips.specs.Trips.{CanHold, carried, Same, Carried}
 
--- a known letter is not refused
-known-passes : (sharing : Sharing) (later : Option Refusal) → lettered (sharing_of (letter_of sharing)) later ≡ later
-known-passes Even later = refl
-known-passes Weighted later = refl
-known-passes ByNeed later = refl
-
--- and only a known letter is not
+-- only a known letter is not refused
 passed-by : (letter : ℕ) (later : Option Refusal) (o : Option Sharing) → sharing_of letter ≡ o → lettered o later ≡ None → Known letter
 passed-by letter later None e d = let z : ◌≡◌ {A = ℕ} 0 1 = cc in absurd (omega arith)
 passed-by letter later (Some Even) e d = (Even, grind (arith, nat_tests))
@@ -37,18 +31,6 @@ passed-by letter later (Some ByNeed) e d = (ByNeed, grind (arith, nat_tests))
 
 pub passed-known : (letter : ℕ) (later : Option Refusal) → lettered (sharing_of letter) later ≡ None → Known letter
 passed-known letter later e = passed-by letter later (sharing_of letter) refl e
-
--- an order that was read can be written wherever there is room
-pub writes-valid : (m : Meaning) (order : Order) → Valid m order → (room : ℕ) → write_why order.letter order.rows order.board room ≡ cond (ltb room (length (encoding order))) (Some OutputTooShort) None
-writes-valid m order valid room =
-    let listed = valid.listed in
-    let some = valid.tasks in
-    let sizes = ap (λ x. x.tasks) valid.fits in
-    let fit : (not (eqb (length order.rows) order.board.tasks) || eqb order.board.tasks 0) ≡ false = grind (arith, nat_tests) in
-    let later = cond (ltb room (length (encoding order))) (Some OutputTooShort) None in
-    ap (λ letter. lettered (sharing_of letter) (cond (not (eqb (length order.rows) order.board.tasks) || eqb order.board.tasks 0) (Some SizesDiffer) later)) valid.letter.1
-    ∙ known-passes valid.letter.0 (cond (not (eqb (length order.rows) order.board.tasks) || eqb order.board.tasks 0) (Some SizesDiffer) later)
-    ∙ ap (λ b. cond b (Some SizesDiffer) later) fit
 
 -- what the first board has keeps the second board's condition, if that can hold it
 carried-sound : (second first : Meaning) → Sound second → Sound first → CanHold second first → Sound (carried second first)
@@ -81,39 +63,6 @@ carried-valid second first there here holds letter rs known some listed fine = r
 -- it is written as the same file
 pub carried-file : (second first : Meaning) → CanHold second first → (letter : ℕ) (rs : List Row) → file_of letter rs (carried second first) ≡ file_of letter rs first
 carried-file second first holds letter rs = ap (λ n. encode letter n first.capacity rs first.need first.held) holds.cores
-
--- a file that was refused is not written
-copied-not : (file before : List ℕ) (r : Result ℕ Fault) (fault : Fault) (o : Outcome) → Err fault ≡ outcome_letter o → r ≡ Err fault → Copied file before before r o
-copied-not file before r fault (Ok order) e d = let z : ◌≡◌ {A = ℕ} 0 1 = cc in absurd (omega arith)
-copied-not file before r fault (Err why) e d = (d ∙ e, refl)
-
-pub not-copied : {S : Type 0} {build : Build S} (a b : S) (file : List ℕ) (rs : List Row) (before : List ℕ) (answer r : Result ℕ Fault) (fault : Fault) → LawfullyRead build a b file rs answer → answer ≡ Err fault → r ≡ Err fault → Rewritten build a b file rs before before r
-not-copied {build = build} a b file rs before answer r fault read e d = record {
-  filled = read.read.left;
-  listed = read.read.listed;
-  copied = copied-not file before r fault (read_of (build.meaning a) file) (sym e ∙ read.read.told) d;
-  good = read.read.good;
-  keeps = read.read.keeps;
-}
-
--- a file that was accepted is written again, where the output has room
-copied-so : (file before after : List ℕ) (r : Result ℕ Fault) (letter : ℕ) (o : Outcome) → Ok letter ≡ outcome_letter o → r ≡ told (room_for file before) (length file) → after ≡ left (room_for file before) file before → Copied file before after r o
-copied-so file before after r letter (Ok order) e d f = (d, f)
-copied-so file before after r letter (Err fault) e d f = let z : ◌≡◌ {A = ℕ} 0 1 = cc in absurd (omega arith)
-
-pub so-copied : {S : Type 0} {build : Build S} (a b : S) (file : List ℕ) (rs : List Row) (before after : List ℕ) (answer r : Result ℕ Fault) (letter : ℕ) → LawfullyRead build a b file rs answer → answer ≡ Ok letter → r ≡ told (write_why letter rs (build.meaning b) (length before)) (length (file_of letter rs (build.meaning b))) → after ≡ left (write_why letter rs (build.meaning b) (length before)) (file_of letter rs (build.meaning b)) before → Rewritten build a b file rs before after r
-so-copied {build = build} a b file rs before after answer r letter read e d f =
-    let order : Order = record { letter = letter; board = build.meaning b; rows = rs } in
-    let law : Lawful (build.meaning a) file (Ok order) = subst (λ x. Lawful (build.meaning a) file (gave x (build.meaning b) rs)) e read.lawful in
-    let same = sym law.1 in
-    let why : write_why letter rs (build.meaning b) (length before) ≡ room_for file before = writes-valid (build.meaning a) order law.0 (length before) ∙ ap (λ x. room_for x before) same in
-    record {
-      filled = read.read.left;
-      listed = read.read.listed;
-      copied = copied-so file before after r letter (read_of (build.meaning a) file) (sym e ∙ read.read.told) (d ∙ (λ i. told (why i) (length (same i)))) (f ∙ (λ i. left (why i) (same i) before));
-      good = read.read.good;
-      keeps = read.read.keeps;
-    }
 
 -- what writing has tested
 later-none : (o : Option Sharing) (later : Option Refusal) → lettered o later ≡ None → later ≡ None

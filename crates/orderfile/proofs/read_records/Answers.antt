@@ -4,8 +4,8 @@ use Rattle.tasks.specs.Table.{rows}
 use Rattle.records.specs.Cuts.{plain, walk_of}
 use Rattle.sections.specs.Turns.{start}
 use Rattle.orders.specs.Steps.{reading}
-use Rattle.orders.specs.Reads.{run_from, order_of}
-use Rattle.orderfile.proofs.Loop.{Sofar, begin, more, onward, refused-told, unopened, ends-cut, ends-refused, ends-followed, ends-well}
+use Rattle.orders.specs.Reads.{run_from}
+use Rattle.orderfile.proofs.Loop.{Sofar, begin, more, onward, refused-told, ends-refused}
 use Rattle.orderfile.proofs.read_records.Goals as goal
 
 pub loop-records-init : goal.loop-records-init
@@ -32,36 +32,6 @@ loop-records-preserved g c =
       subst (λ f. Sofar whole t f c.next.new.self.at) (sym walked.file) (subst (λ n. Sofar whole t at.records.file.now n) (sym walked.at) next),
     )
 
-pub returns-in_err-records : goal.returns-in_err-records
-returns-in_err-records g c =
-    let b = g.B.Board in
-    let m = b.build.meaning c.args.board.now in
-    let rs = rows c.args.tasks.now in
-    let left = err_from_is_err_and c.from_residual.result c.from_residual.ensures.1 in
-    let fault = c.in_err-records.field-0.0 in
-    record {
-      told = refused-told c.from_residual.result m rs (run_from m rs c.args.file.now) fault (left.1 ∙ ap (λ x. Err x) left.2) (unopened m rs c.args.file.now fault c.in_err-records.ensures);
-      frame = refl;
-      good = c.requires;
-      keeps = b.build.keeping.same c.args.board.now;
-    }
-
-pub returns-in_err-found : goal.returns-in_err-found
-returns-in_err-found g c =
-    let b = g.B.Board in
-    let at = c.loop-records in
-    let whole = run_from (b.build.meaning c.args.board.now) (rows c.args.tasks.now) c.args.file.now in
-    let s = reading at.reader at.seen (b.build.meaning at.board) (rows at.tasks) in
-    let left = err_from_is_err_and c.from_residual-in_err-found.result c.from_residual-in_err-found.ensures.1 in
-    let fault = c.in_err-found.field-0.0 in
-    record {
-      told = refused-told c.from_residual-in_err-found.result (b.build.meaning at.board) (rows at.tasks) whole fault (left.1 ∙ ap (λ x. Err x) left.2)
-          (ends-cut whole s at.records.file.now at.records.at fault at.invariant.1 (sym c.loop-records-test.ensures) c.in_err-found.ensures.answer);
-      frame = at.invariant.0.frame;
-      good = at.invariant.0.good;
-      keeps = at.invariant.0.keeps;
-    }
-
 pub returns-in_err-take : goal.returns-in_err-take
 returns-in_err-take g c =
     let b = g.B.Board in
@@ -79,33 +49,4 @@ returns-in_err-take g c =
       frame = on.frame;
       good = on.good;
       keeps = on.keeps;
-    }
-
-pub returns-in_err-finish : goal.returns-in_err-finish
-returns-in_err-finish g c =
-    let b = g.B.Board in
-    let at = c.loop-records in
-    let whole = run_from (b.build.meaning c.args.board.now) (rows c.args.tasks.now) c.args.file.now in
-    let s = reading at.reader at.seen (b.build.meaning at.board) (rows at.tasks) in
-    let left = err_from_is_err_and c.from_residual-in_err-finish.result c.from_residual-in_err-finish.ensures.1 in
-    let fault = c.in_err-finish.field-0.0 in
-    record {
-      told = refused-told c.from_residual-in_err-finish.result (b.build.meaning at.board) (rows at.tasks) whole fault (left.1 ∙ ap (λ x. Err x) left.2)
-          (ends-followed whole s at.records.file.now at.records.at fault at.invariant.1 (sym c.loop-records-test.ensures) c.in_err-finish.ensures);
-      frame = at.invariant.0.frame;
-      good = at.invariant.0.good;
-      keeps = at.invariant.0.keeps;
-    }
-
-pub returns : goal.returns
-returns g c =
-    let b = g.B.Board in
-    let at = c.loop-records in
-    let whole = run_from (b.build.meaning c.args.board.now) (rows c.args.tasks.now) c.args.file.now in
-    let s = reading at.reader at.seen (b.build.meaning at.board) (rows at.tasks) in
-    record {
-      told = sym (ap order_of (ends-well whole s at.records.file.now at.records.at at.invariant.1 (sym c.loop-records-test.ensures) c.in_ok-finish.ensures));
-      frame = at.invariant.0.frame;
-      good = at.invariant.0.good;
-      keeps = at.invariant.0.keeps;
     }

@@ -9,13 +9,14 @@ use board::fault::Fault;
 use board::{Board, MOST_TASKS};
 use commissioning::{Stand, Tally, Told, follow, look};
 use judge::{Verdict, judge};
+use letters::rule_of;
 use orderfile::{read, sizes};
 use pair_board::PairBoard;
 use pair_board::entry::BLANK;
 use plan::runs::{Answer, State};
 use plan::states::WorkingPlan;
 use routes::Step;
-use rules::{ByNeed, Even, Rule, Weighted};
+use rules::Rule;
 use std::{env, fs, io};
 use tasks::table::TaskTable;
 
@@ -23,10 +24,7 @@ use tasks::table::TaskTable;
 type Route = [Step; 16];
 
 fn print_fault(rt: &HostRuntime, fault: Fault) -> io::Result<()> {
-    let number = fault.number();
-    let layer = fault.layer();
-    let place = fault.place;
-    println!(rt; "refused {number} layer {layer} place {place}")
+    println!(rt; "{fault}")
 }
 
 fn print_told(rt: &HostRuntime, told: Told) -> io::Result<()> {
@@ -166,23 +164,6 @@ fn play<B: Board, R: Rule>(rt: &HostRuntime, board: &mut B, rule: R, script: &st
     print_tally(rt, tally, working)
 }
 
-// Plays under the rule that the letter names.
-fn play_by_letter<B: Board>(
-    rt: &HostRuntime,
-    board: &mut B,
-    letter: u8,
-    tasks: &TaskTable,
-    script: &str,
-) -> io::Result<()>
-    requires { Good B.build board.old }
-{
-    match letter as char {
-        'e' => play(rt, board, Even, script),
-        'w' => play(rt, board, Weighted::new(tasks.weights()), script),
-        _ => play(rt, board, ByNeed, script),
-    }
-}
-
 fn refuse(rt: &HostRuntime, fault: Fault) -> io::Result<()> {
     print_fault(rt, fault)?;
     Err(io::ErrorKind::InvalidData.into())
@@ -203,7 +184,7 @@ fn main(rt: HostRuntime) -> io::Result<()> {
     let mut board = PairBoard::make(n, m, &mut entries);
     let mut tasks = TaskTable::new();
     match read(file.as_slice(), &mut board, &mut tasks) {
-        Ok(letter) => play_by_letter(&rt, &mut board, letter, &tasks, script.as_str()),
+        Ok(letter) => play(&rt, &mut board, rule_of(letter, &tasks), script.as_str()),
         Err(fault) => refuse(&rt, fault),
     }
 }

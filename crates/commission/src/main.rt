@@ -10,13 +10,14 @@ use board::{Board, MOST_TASKS};
 use calls::Phase;
 use commissioning::{Done, NotDone, Stand, Tally, follow, look};
 use judge::{Verdict, judge};
+use letters::rule_of;
 use orderfile::{read, sizes};
 use pair_board::PairBoard;
 use pair_board::entry::BLANK;
 use plan::runs::{NotTaken, State};
 use plan::states::WorkingPlan;
 use routes::Step;
-use rules::{ByNeed, Even, Rule, Weighted};
+use rules::Rule;
 use std::{env, fs, io};
 use tasks::table::TaskTable;
 
@@ -153,23 +154,6 @@ fn play<B: Board, R: Rule>(rt: &HostRuntime, board: &mut B, rule: R, script: &st
     print_tally(rt, tally, phase)
 }
 
-// Plays under the rule that the letter names.
-fn play_by_letter<B: Board>(
-    rt: &HostRuntime,
-    board: &mut B,
-    letter: u8,
-    tasks: &TaskTable,
-    script: &str,
-) -> io::Result<()>
-    requires { Good B.build board.old }
-{
-    match letter as char {
-        'e' => play(rt, board, Even, script),
-        'w' => play(rt, board, Weighted::new(tasks.weights()), script),
-        _ => play(rt, board, ByNeed, script),
-    }
-}
-
 fn refuse(rt: &HostRuntime, fault: Fault) -> io::Result<()> {
     println!(rt; "{fault}")?;
     Err(io::ErrorKind::InvalidData.into())
@@ -190,7 +174,7 @@ fn main(rt: HostRuntime) -> io::Result<()> {
     let mut board = PairBoard::make(n, m, &mut entries);
     let mut tasks = TaskTable::new();
     match read(file.as_slice(), &mut board, &mut tasks) {
-        Ok(letter) => play_by_letter(&rt, &mut board, letter, &tasks, script.as_str()),
+        Ok(letter) => play(&rt, &mut board, rule_of(letter, &tasks), script.as_str()),
         Err(fault) => refuse(&rt, fault),
     }
 }

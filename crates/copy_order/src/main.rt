@@ -24,11 +24,23 @@ const ENTRIES: usize = 1024;
 // A need and the slots of each pair, and 16 capacities.
 const NUMBERS: usize = 2064;
 
-fn print_refusal(rt: &HostRuntime, fault: Fault) -> io::Result<()> {
-    let number = fault.number();
-    let layer = fault.layer();
-    let place = fault.place;
-    println!(rt; "refused {number} layer {layer} place {place}")
+// Why a copy ends early: the order is refused, or nothing can be printed.
+#[derive(Drop)]
+enum Stop {
+    Refused(Fault),
+    Failed(io::Error),
+}
+
+impl From<Fault> for Stop {
+    fn from(fault: Fault) -> Stop {
+        Stop::Refused(fault)
+    }
+}
+
+impl From<io::Error> for Stop {
+    fn from(error: io::Error) -> Stop {
+        Stop::Failed(error)
+    }
 }
 
 // What a board and a table hold.
@@ -49,37 +61,39 @@ fn print_order<B: Board>(
 }
 
 fn print_copy(rt: &HostRuntime, file: &[u8], again: &[u8], length: usize) -> io::Result<()> {
-    if length <= again.len() && &again[0..length] == file {
+    if again.starts_with(file) && length == file.len() {
         println!(rt; "read and written again: the same {length} bytes")
     } else {
         println!(rt; "read and written again: other bytes")
     }
 }
 
-fn copy(rt: &HostRuntime, file: &[u8]) -> io::Result<()> {
-    let (letter, n, m) = match sizes(file) {
-        Ok((letter, n, m)) => (letter, n as usize, m as usize),
-        Err(fault) => return print_refusal(rt, fault),
-    };
+// Copies the order from the file to the pair board, back into bytes, and on to the table board.
+fn copy(rt: &HostRuntime, file: &[u8]) -> Result<(), Stop> {
+    let (letter, n, m) = sizes(file)?;
+    let n = n as usize;
+    let m = m as usize;
     let mut entries = [BLANK; ENTRIES];
     let mut pairs = PairBoard::make(n, m, &mut entries);
     let mut tasks = TaskTable::new();
     let mut again = [0; MOST_BYTES];
-    match read_and_write(file, &mut pairs, &mut tasks, &mut again) {
-        Ok(length) => print_copy(rt, file, &again, length)?,
-        Err(fault) => return print_refusal(rt, fault),
-    }
+    let length = read_and_write(file, &mut pairs, &mut tasks, &mut again)?;
+    print_copy(rt, file, &again, length)?;
     let mut numbers = [0; NUMBERS];
     let mut table = TableBoard::make(n, m, &mut numbers);
     let mut names = TaskTable::new();
-    match write_and_read(&pairs, &tasks, letter, &mut again, &mut table, &mut names) {
-        Ok(letter) => print_order(rt, &table, &names, letter),
-        Err(fault) => print_refusal(rt, fault),
-    }
+    let letter = write_and_read(&pairs, &tasks, letter, &mut again, &mut table, &mut names)?;
+    print_order(rt, &table, &names, letter)?;
+    Ok(())
 }
 
+// A refusal is what came of the copy, and is printed.
 fn main(rt: HostRuntime) -> io::Result<()> {
     let mut buffer = [0; MOST_BYTES];
     let have = fill(&rt, &mut buffer)?;
-    copy(&rt, &buffer[0..have])
+    match copy(&rt, &buffer[..have]) {
+        Ok(()) => Ok(()),
+        Err(Stop::Refused(fault)) => println!(rt; "{fault}"),
+        Err(Stop::Failed(error)) => Err(error),
+    }
 }

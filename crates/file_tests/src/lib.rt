@@ -8,7 +8,8 @@ use board::Board;
 use board::fault::Fault;
 use orderfile::read;
 use pair_board::PairBoard;
-use pair_board::entry::Entry;
+use pair_board::entry::BLANK;
+use std::alloc::{AllocError, Global};
 use tasks::table::TaskTable;
 
 // Two tasks on two cores of capacity 3, and three needs of 3.
@@ -18,39 +19,17 @@ pub const SAMPLE: [u8; 69] = [
     4, 0, 1, 1, 3, 0, 4, 0, 6, 0, 8, 0,
 ];
 
-pub const NO_ENTRY: Entry = Entry {
-    task: 0,
-    core: 0,
-    need: 0,
-    held: 0,
-};
-
-// What a reading is told: the number of the refusal and its place, or 0 and the letter.
-#[derive(Clone, Copy, PartialEq, Eq, Debug, Drop)]
-pub struct Told {
-    pub number: u8,
-    pub place: usize,
-}
-
-pub fn answered(answer: Result<u8, Fault>) -> Told {
-    match answer {
-        Ok(letter) => Told {
-            number: 0,
-            place: letter as usize,
-        },
-        Err(fault) => Told {
-            number: fault.number(),
-            place: fault.place,
-        },
-    }
+// What a call gave, or the number of its refusal with the place.
+pub fn told<T>(answer: Result<T, Fault>) -> Result<T, (u8, usize)> {
+    answer.map_err(|fault| (fault.number(), fault.place))
 }
 
 // Reads the file onto a new board of 2 tasks and 2 cores with room for 3 pairs.
-pub fn told_of(file: &[u8]) -> Told {
-    let mut entries = [NO_ENTRY; 3];
+pub fn told_of(file: &[u8]) -> Result<u8, (u8, usize)> {
+    let mut entries = [BLANK; 3];
     let mut board = PairBoard::make(2, 2, &mut entries);
     let mut tasks = TaskTable::new();
-    answered(read(file, &mut board, &mut tasks))
+    told(read(file, &mut board, &mut tasks))
 }
 
 // The sample with one byte changed, and what it is told.
@@ -58,105 +37,67 @@ pub fn told_of(file: &[u8]) -> Told {
 pub struct Change {
     pub at: usize,
     pub byte: u8,
-    pub told: Told,
+    pub told: Result<u8, (u8, usize)>,
 }
 
-pub const fn changed(at: usize, byte: u8, number: u8, place: usize) -> Change {
+impl Change {
+    pub fn file(self) -> [u8; 69] {
+        let mut file = SAMPLE;
+        if self.at < file.len() {
+            file[self.at] = self.byte;
+        }
+        file
+    }
+}
+
+// One byte is changed, and the file is accepted with this letter.
+pub const fn accepted(at: usize, byte: u8, letter: u8) -> Change {
     Change {
         at,
         byte,
-        told: Told { number, place },
+        told: Ok(letter),
+    }
+}
+
+// One byte is changed, and the file is refused with this number at this place.
+pub const fn refused(at: usize, byte: u8, number: u8, place: usize) -> Change {
+    Change {
+        at,
+        byte,
+        told: Err((number, place)),
     }
 }
 
 // The first change that is told something else.
 pub fn first_surprise(changes: &[Change]) -> Option<usize> {
-    for (i, change) in changes.iter().enumerate() {
-        let mut file = SAMPLE;
-        if change.at < file.len() {
-            file[change.at] = change.byte;
-        }
-        if told_of(&file) != change.told {
-            return Some(i);
-        }
-    }
-    None
-}
-
-// A file that is put together byte by byte, with room for one byte more than any order has.
-#[derive(Drop)]
-pub struct Draft {
-    bytes: [u8; 17662],
-    length: usize,
-}
-
-impl Draft {
-    pub fn new() -> Draft {
-        Draft {
-            bytes: [0; 17662],
-            length: 0,
-        }
-    }
-
-    pub fn put(&mut self, byte: u8) {
-        if self.length < 17662 {
-            self.bytes[self.length] = byte;
-            self.length += 1;
-        }
-    }
-
-    pub fn put_all(&mut self, bytes: &[u8]) {
-        for byte in bytes {
-            self.put(*byte);
-        }
-    }
-
-    pub fn file(&self) -> &[u8] {
-        if self.length > 17662 {
-            return &[];
-        }
-        &self.bytes[0..self.length]
-    }
+    changes
+        .iter()
+        .position(|change| told_of(&change.file()) != change.told)
 }
 
 // A record of the kind for each pair of 64 tasks and 16 cores.
-fn put_pairs(draft: &mut Draft, kind: u8, low: u8, high: u8) {
+fn put_pairs(file: &mut Vec<u8>, kind: u8, low: u8, high: u8) -> Result<(), AllocError> {
     for task in 0..64 {
         for core in 0..16 {
-            draft.put_all(&[6, 0, kind, 0, task, core, low, high]);
+            file.extend_from_slice(&[6, 0, kind, 0, task, core, low, high])?;
         }
     }
+    Ok(())
 }
 
 // The largest order: 64 tasks with names of 12 bytes, 16 cores, and a need and slots for each pair.
-pub fn put_largest(draft: &mut Draft) {
-    draft.put_all(&[5, 0, 1, 0, 0x77, 64, 16]);
+pub fn largest_file(heap: Global) -> Result<Vec<u8>, AllocError> {
+    let mut file = vec![in heap; 5, 0, 1, 0, 0x77, 64, 16]?;
     for core in 0..16 {
-        draft.put_all(&[5, 0, 2, 0, core, 0xE8, 3]);
+        file.extend_from_slice(&[5, 0, 2, 0, core, 0xE8, 3])?;
     }
     for task in 0..64 {
-        draft.put_all(&[
-            16,
-            0,
-            3,
-            0,
-            task,
-            100,
-            0x74,
-            0x61,
-            0x73,
-            0x6B,
-            0x2D,
-            0x2D,
-            0x2D,
-            0x2D,
-            0x2D,
-            0x2D,
-            0x2D,
-            0x21 + task,
-        ]);
+        file.extend_from_slice(&[16, 0, 3, 0, task, 100])?;
+        file.extend_from_slice(b"task-------")?;
+        file.push(0x21 + task)?;
     }
-    put_pairs(draft, 4, 0xE8, 3);
-    put_pairs(draft, 5, 15, 0);
-    draft.put_all(&[4, 0, 6, 0, 0x51, 8]);
+    put_pairs(&mut file, 4, 0xE8, 3)?;
+    put_pairs(&mut file, 5, 15, 0)?;
+    file.extend_from_slice(&[4, 0, 6, 0, 0x51, 8])?;
+    Ok(file)
 }

@@ -4,13 +4,23 @@
 #[cfg(test)]
 mod tests;
 
-use reporting::report_of;
+use reporting::{Report, report_of};
 use std::alloc::{AllocError, Global};
 
-// Whether the file's report is just this text.
-pub fn prints(heap: Global, file: &[u8], text: &[u8], refused: bool) -> Result<bool, AllocError> {
-    let report = report_of(heap, file)?;
-    Ok(report.refused == refused && report.text.as_slice() == text)
+// Whether the file is answered with a plan, and just with this text.
+pub fn shows(heap: Global, file: &[u8], text: &str) -> Result<bool, AllocError> {
+    Ok(match report_of(heap, file)? {
+        Report::Plan(shown) => shown.as_str() == text,
+        Report::Refusal(_) => false,
+    })
+}
+
+// Whether the file is refused, and just with this line.
+pub fn refuses(heap: Global, file: &[u8], line: &str) -> Result<bool, AllocError> {
+    Ok(match report_of(heap, file)? {
+        Report::Plan(_) => false,
+        Report::Refusal(told) => told.as_str() == line,
+    })
 }
 
 // One core of the capacity, and two tasks, a and b, with weights and needs there.

@@ -1,34 +1,26 @@
 // What the report prints of files that are right, and of files that are refused.
 use super::*;
-use file_tests::{Draft, SAMPLE, put_largest};
+use file_tests::{SAMPLE, largest_file};
 use std::test::Fail;
 
 #[test]
 fn a_plan(rt: HostRuntime) -> Result<(), Fail> {
-    let text = b"bus              3   50.0%\nlog              3   50.0%\nfree             0\n";
-    assert!(rt; prints(rt.alloc(), &SAMPLE, text, false)?);
+    let text = "bus              3   50.0%\nlog              3   50.0%\nfree             0\n";
+    assert!(rt; shows(rt.alloc(), &SAMPLE, text)?);
     Ok(())
 }
 
 #[test]
 fn a_refusal(rt: HostRuntime) -> Result<(), Fail> {
     assert!(rt;
-        prints(
+        refuses(
             rt.alloc(),
             &[4, 0, 1, 0, 0x65, 2],
-            b"refused 5 layer 1 place 0\n",
-            true,
+            "refused 5 layer 1 place 0\n"
         )?
     );
-    assert!(rt; prints(rt.alloc(), &[], b"refused 2 layer 1 place 0\n", true)?);
-    assert!(rt;
-        prints(
-            rt.alloc(),
-            &SAMPLE[0..60],
-            b"refused 2 layer 1 place 55\n",
-            true,
-        )?
-    );
+    assert!(rt; refuses(rt.alloc(), &[], "refused 2 layer 1 place 0\n")?);
+    assert!(rt; refuses(rt.alloc(), &SAMPLE[0..60], "refused 2 layer 1 place 55\n")?);
     Ok(())
 }
 
@@ -37,29 +29,26 @@ fn a_refusal(rt: HostRuntime) -> Result<(), Fail> {
 fn each_letter(rt: HostRuntime) -> Result<(), Fail> {
     let even = two_tasks(b'e', 7, [1, 2], [3, 8]);
     assert!(rt;
-        prints(
+        shows(
             rt.alloc(),
             &even,
-            b"a                3   42.8%\nb                4   57.1%\nfree             0\n",
-            false,
+            "a                3   42.8%\nb                4   57.1%\nfree             0\n"
         )?
     );
     let weighted = two_tasks(b'w', 1, [1, 2], [1, 1]);
     assert!(rt;
-        prints(
+        shows(
             rt.alloc(),
             &weighted,
-            b"a                1  100.0%\nb                0    0.0%\nfree             0\n",
-            false,
+            "a                1  100.0%\nb                0    0.0%\nfree             0\n"
         )?
     );
     let by_need = two_tasks(b'n', 6, [1, 1], [4, 8]);
     assert!(rt;
-        prints(
+        shows(
             rt.alloc(),
             &by_need,
-            b"a                2   33.3%\nb                4   66.6%\nfree             0\n",
-            false,
+            "a                2   33.3%\nb                4   66.6%\nfree             0\n"
         )?
     );
     Ok(())
@@ -70,20 +59,18 @@ fn each_letter(rt: HostRuntime) -> Result<(), Fail> {
 fn shares_at_the_bounds(rt: HostRuntime) -> Result<(), Fail> {
     let none = two_tasks(b'e', 0, [1, 1], [3, 8]);
     assert!(rt;
-        prints(
+        shows(
             rt.alloc(),
             &none,
-            b"a                0    0.0%\nb                0    0.0%\nfree             0\n",
-            false,
+            "a                0    0.0%\nb                0    0.0%\nfree             0\n"
         )?
     );
     let plenty = two_tasks(b'e', 100, [1, 1], [3, 8]);
     assert!(rt;
-        prints(
+        shows(
             rt.alloc(),
             &plenty,
-            b"a                3    3.0%\nb                8    8.0%\nfree            89\n",
-            false,
+            "a                3    3.0%\nb                8    8.0%\nfree            89\n"
         )?
     );
     Ok(())
@@ -95,11 +82,10 @@ fn no_needs(rt: HostRuntime) -> Result<(), Fail> {
         5, 0, 1, 0, 0x6E, 1, 1, 5, 0, 2, 0, 0, 9, 0, 5, 0, 3, 0, 0, 1, b'x', 4, 0, 6, 0, 3, 0,
     ];
     assert!(rt;
-        prints(
+        shows(
             rt.alloc(),
             &file,
-            b"x                0    0.0%\nfree             9\n",
-            false,
+            "x                0    0.0%\nfree             9\n"
         )?
     );
     Ok(())
@@ -108,16 +94,12 @@ fn no_needs(rt: HostRuntime) -> Result<(), Fail> {
 // 64 tasks on 16 cores of capacity 1,000: all weights are equal, so each task has 250 of the 16,000 slots.
 #[test]
 fn the_largest_order(rt: HostRuntime) -> Result<(), Fail> {
-    let mut draft = Draft::new();
-    put_largest(&mut draft);
-    let report = report_of(rt.alloc(), draft.file())?;
-    assert!(rt; !report.refused);
-    assert_eq!(rt; report.text.len(), 64 * 27 + 19);
-    assert!(rt;
-        report
-            .text
-            .as_slice()
-            .ends_with(b"task-------`   250    1.5%\nfree             0\n")
-    );
+    let file = largest_file(rt.alloc())?;
+    let Report::Plan(text) = report_of(rt.alloc(), &file)? else {
+        assert!(rt; false);
+        return Ok(());
+    };
+    assert_eq!(rt; text.len(), 64 * 27 + 19);
+    assert!(rt; text.ends_with("task-------`   250    1.5%\nfree             0\n"));
     Ok(())
 }

@@ -36,4 +36,4 @@ no_memory = record { number = 255; layer = 0; place = 0; length = 0 }
 abbrev pub shown_of : Result ℕ NoPlan → Answer
 shown_of (Ok length) = done length
 shown_of (Err (Refused fault)) = refused_for fault
-shown_of (Err OutOfMemory) = no_memory
+shown_of (Err (OutOfMemory want)) = no_memory

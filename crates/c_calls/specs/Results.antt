@@ -16,8 +16,8 @@ use Rattle.orders.specs.Reads.{Outcome}
 use Rattle.order_writer.specs.Writing.{Written, told, left}
 use Rattle.letters.specs.Letters.{ByLetter}
 use Rattle.reporting.specs.declared.NoPlan.{NoPlan}
-use Rattle.reporting.specs.declared.NoPlan.TheVariants.{Refused, OutOfMemory}
-use Rattle.reporting.specs.Reports.{ShownBy}
+use Rattle.reporting.specs.declared.NoPlan.TheVariants.{Refused}
+use Rattle.reporting.specs.Reports.{ShownBy, WantOfMemory}
 use Rattle.c_calls.specs.declared.answers.Answer.{Answer}
 use Rattle.c_calls.specs.declared.answers.Judgement.{Judgement}
 use Rattle.c_calls.specs.Answers.{done, refused_for, answer_of, shown_of}
@@ -81,9 +81,14 @@ pub record TextGiven (letter : ℕ) (m : Meaning) (rows : List Row) (before afte
   pub told : r ≡ unshown (told (too_short (length before) (length text)) (length text))
   pub left : after ≡ left (too_short (length before) (length text)) text before
 
+-- there was no memory for the text
+abbrev pub NoMemory : Result ℕ NoPlan → Type 0
+NoMemory (Ok length) = ⊥
+NoMemory (Err why) = WantOfMemory why
+
 -- the text of an accepted file's plan is given, or there was no memory for it; of any other the fault is told, and the output is as it was
 abbrev pub OrderShown : Outcome → List ℕ → List ℕ → Result ℕ NoPlan → Type 0
-OrderShown (Ok order) before after r = TextGiven order.letter order.board order.rows before after r ⊎ ((r ≡ Err OutOfMemory) × (after ≡ before))
+OrderShown (Ok order) before after r = TextGiven order.letter order.board order.rows before after r ⊎ (NoMemory r × (after ≡ before))
 OrderShown (Err fault) before after r = (r ≡ Err (Refused fault)) × (after ≡ before)
 
 pub record FileShown (outcome : Outcome) (before after : List ℕ) (r : Answer) : Type 0 where

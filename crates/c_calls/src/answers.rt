@@ -58,7 +58,7 @@ impl From<Result<usize, NoPlan>> for Answer {
         match wrote {
             Ok(length) => Answer::from(Ok::<usize, Fault>(length)),
             Err(NoPlan::Refused(fault)) => Answer::from(Err::<usize, Fault>(fault)),
-            Err(NoPlan::OutOfMemory) => Answer {
+            Err(NoPlan::OutOfMemory(_)) => Answer {
                 number: 255,
                 layer: 0,
                 place: 0,

@@ -23,16 +23,13 @@ use reporting::{NoPlan, show_by_letter};
 use routes::Step;
 use rules::Rule;
 use std::alloc::Global;
-use table_board::TableBoard;
+use table_board::{MOST_NUMBERS, TableBoard};
 use tasks::table::TaskTable;
-
-// The numbers that a table of 64 tasks and 16 cores takes.
-const TABLE_NUMBERS: usize = 2064;
 
 // The letter of the file's order, and the order on a board of its own; its tasks are put into the table.
 fn read_order<'a>(
     file: &[u8],
-    cells: &'a mut [u16; TABLE_NUMBERS],
+    cells: &'a mut [u16; MOST_NUMBERS],
     tasks: &mut TaskTable,
 ) -> Result<(u8, TableBoard<'a>), Fault>
     ensures { OrderRead (outcome_of file.now) (rows tasks.new) result }
@@ -46,7 +43,7 @@ fn read_order<'a>(
 fn accept(file: &[u8]) -> Result<usize, Fault>
     ensures { result ≡ accepted (outcome_of file.now) }
 {
-    let mut cells = [0; TABLE_NUMBERS];
+    let mut cells = [0; MOST_NUMBERS];
     let mut tasks = TaskTable::new();
     read_order(file, &mut cells, &mut tasks)?;
     Ok(0)
@@ -64,7 +61,7 @@ pub extern "C" fn bikstaru_check(file: &[u8]) -> Answer
 fn judge_order(file: &[u8], route: &mut [Step]) -> Result<Verdict, Fault>
     ensures { OrderJudged (outcome_of file.now) route.old route.new result }
 {
-    let mut cells = [0; TABLE_NUMBERS];
+    let mut cells = [0; MOST_NUMBERS];
     let mut tasks = TaskTable::new();
     let (letter, board) = read_order(file, &mut cells, &mut tasks)?;
     judge(&board, rule_of(letter, &tasks), route)
@@ -97,7 +94,7 @@ fn write_plan<B: Board, R: Rule>(
 fn plan_order(file: &[u8], out: &mut [u8]) -> Result<usize, Fault>
     ensures { OrderPlanned (outcome_of file.now) out.old out.new result }
 {
-    let mut cells = [0; TABLE_NUMBERS];
+    let mut cells = [0; MOST_NUMBERS];
     let mut tasks = TaskTable::new();
     let (letter, mut board) = read_order(file, &mut cells, &mut tasks)?;
     let rule = rule_of(letter, &tasks);
@@ -129,7 +126,7 @@ fn put_text(text: &[u8], out: &mut [u8]) -> Result<usize, Fault>
 fn show_order(heap: Global, file: &[u8], out: &mut [u8]) -> Result<usize, NoPlan>
     ensures { OrderShown (outcome_of file.now) out.old out.new result }
 {
-    let mut cells = [0; TABLE_NUMBERS];
+    let mut cells = [0; MOST_NUMBERS];
     let mut tasks = TaskTable::new();
     let (letter, mut board) = read_order(file, &mut cells, &mut tasks)?;
     let text = show_by_letter(heap, &mut board, letter, &tasks)?;

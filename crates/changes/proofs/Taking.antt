@@ -71,6 +71,3 @@ capacity-goes m fit b core amount t fe fits be =
     let w : b ≡ with_capacity s core amount = be ∙ (ap (λ (z : Meaning). after z (set_capacity z core amount)) fe ∙ ap (after s) e) in
     let Q : Meaning → Type 0 = λ z. SameOrder (with_capacity m core amount) z in
     subst Q (sym w) refl
-
-pub order-on : (a b c : Meaning) → SameOrder a b → SameOrder b c → SameOrder a c
-order-on a b c p q = q ∙ ap (λ (z : Meaning). planned z c.held) p

@@ -12,8 +12,8 @@ use commissioning::{Done, NotDone, Stand, Tally, follow, look};
 use judge::{Verdict, judge};
 use letters::rule_of;
 use orderfile::{read, sizes};
-use pair_board::PairBoard;
 use pair_board::entry::BLANK;
+use pair_board::{MOST_ENTRIES, PairBoard};
 use plan::runs::{NotTaken, State};
 use plan::states::WorkingPlan;
 use routes::Step;
@@ -170,7 +170,7 @@ fn main(rt: HostRuntime) -> io::Result<()> {
         Ok((_, n, m)) => (n as usize, m as usize),
         Err(fault) => return refuse(&rt, fault),
     };
-    let mut entries = [BLANK; 1024];
+    let mut entries = [BLANK; MOST_ENTRIES];
     let mut board = PairBoard::make(n, m, &mut entries);
     let mut tasks = TaskTable::new();
     match read(file.as_slice(), &mut board, &mut tasks) {

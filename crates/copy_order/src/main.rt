@@ -7,22 +7,17 @@ ghost use Rattle.board.specs.Boards.{Good};
 use board::Board;
 use board::fault::Fault;
 use orderfile::sizes;
-use pair_board::PairBoard;
 use pair_board::entry::BLANK;
+use pair_board::{MOST_ENTRIES, PairBoard};
+use records::LONGEST_FILE;
 use round_trips::{read_and_write, write_and_read};
 use standard_input::fill;
 use std::io;
-use table_board::TableBoard;
+use table_board::{MOST_NUMBERS, TableBoard};
 use tasks::table::TaskTable;
 
 // One byte more than the longest order file: a file that fills it is too long.
-const MOST_BYTES: usize = 17662;
-
-// An entry for each pair of 64 tasks and 16 cores.
-const ENTRIES: usize = 1024;
-
-// A need and the slots of each pair, and 16 capacities.
-const NUMBERS: usize = 2064;
+const MOST_BYTES: usize = LONGEST_FILE + 1;
 
 // Why a copy ends early: the order is refused, or nothing can be printed.
 #[derive(Drop)]
@@ -73,13 +68,13 @@ fn copy(rt: &HostRuntime, file: &[u8]) -> Result<(), Stop> {
     let (letter, n, m) = sizes(file)?;
     let n = n as usize;
     let m = m as usize;
-    let mut entries = [BLANK; ENTRIES];
+    let mut entries = [BLANK; MOST_ENTRIES];
     let mut pairs = PairBoard::make(n, m, &mut entries);
     let mut tasks = TaskTable::new();
     let mut again = [0; MOST_BYTES];
     let length = read_and_write(file, &mut pairs, &mut tasks, &mut again)?;
     print_copy(rt, file, &again, length)?;
-    let mut numbers = [0; NUMBERS];
+    let mut numbers = [0; MOST_NUMBERS];
     let mut table = TableBoard::make(n, m, &mut numbers);
     let mut names = TaskTable::new();
     let letter = write_and_read(&pairs, &tasks, letter, &mut again, &mut table, &mut names)?;

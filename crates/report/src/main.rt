@@ -1,12 +1,13 @@
 // Reads an order file from standard input, and prints its report.
 #![tactic(auto)]
 
+use records::LONGEST_FILE;
 use reporting::{Report, report_of};
 use standard_input::fill;
 use std::io;
 
 // One byte more than the longest order file: a file that fills it is too long.
-const MOST_BYTES: usize = 17662;
+const MOST_BYTES: usize = LONGEST_FILE + 1;
 
 fn main(rt: HostRuntime) -> io::Result<()> {
     let mut buffer = [0; MOST_BYTES];

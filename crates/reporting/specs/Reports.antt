@@ -52,10 +52,15 @@ pub record Shown (compare : Comparison) (m : Meaning) (rows : List Row) (text : 
 abbrev pub ShownBy : ℕ → Meaning → List Row → List ℕ → Type 0
 ShownBy letter m rows text = ByLetter letter rows (λ compare. Shown compare m rows text)
 
+-- not a refusal
+abbrev pub WantOfMemory : NoPlan → Type 0
+WantOfMemory (Refused fault) = ⊥
+WantOfMemory (OutOfMemory want) = Unit {0}
+
 -- what a file came to: the text of its plan, the fault that it is refused for, or want of memory for the text
 abbrev pub PlanTold : Outcome → Result (String Global) NoPlan → Type 0
 PlanTold (Ok order) (Ok text) = ShownBy order.letter order.board order.rows (string_bytes text)
-PlanTold (Ok order) (Err why) = why ≡ OutOfMemory
+PlanTold (Ok order) (Err why) = WantOfMemory why
 PlanTold (Err fault) r = r ≡ Err (Refused fault)
 
 -- a file that gives an order is answered with its plan, and any other with the line of its fault

@@ -11,16 +11,13 @@ use board::Board;
 use board::fault::Fault;
 use letters::rule_of;
 use orderfile::{read, sizes};
-use pair_board::PairBoard;
 use pair_board::entry::BLANK;
+use pair_board::{MOST_ENTRIES, PairBoard};
 use plan::states::WorkingPlan;
 use rules::Rule;
 use std::alloc::{AllocError, Global};
 use summary::{refusal_text, report_text};
 use tasks::table::TaskTable;
-
-// An entry for each pair of 64 tasks and 16 cores.
-const ENTRIES: usize = 1024;
 
 // What is printed of a file: the text of its plan, or the line of its refusal.
 #[derive(Drop)]
@@ -33,7 +30,7 @@ pub enum Report {
 #[derive(Clone, Copy, PartialEq, Eq, Debug, Drop)]
 pub enum NoPlan {
     Refused(Fault),
-    OutOfMemory,
+    OutOfMemory(AllocError),
 }
 
 impl From<Fault> for NoPlan {
@@ -45,10 +42,10 @@ impl From<Fault> for NoPlan {
 }
 
 impl From<AllocError> for NoPlan {
-    ghost from_gives = { λ _ e. e ≡ OutOfMemory };
+    ghost from_gives = { λ want e. e ≡ OutOfMemory want };
 
-    fn from(_: AllocError) -> NoPlan {
-        NoPlan::OutOfMemory
+    fn from(want: AllocError) -> NoPlan {
+        NoPlan::OutOfMemory(want)
     }
 }
 
@@ -89,7 +86,7 @@ fn plan_text(heap: Global, file: &[u8]) -> Result<String, NoPlan>
     ensures { PlanTold (outcome_of file.now) result }
 {
     let (_, n, m) = sizes(file)?;
-    let mut entries = [BLANK; ENTRIES];
+    let mut entries = [BLANK; MOST_ENTRIES];
     let mut board = PairBoard::make(n as usize, m as usize, &mut entries);
     let mut tasks = TaskTable::new();
     let letter = read(file, &mut board, &mut tasks)?;
@@ -104,6 +101,6 @@ pub fn report_of(heap: Global, file: &[u8]) -> Result<Report, AllocError>
     match plan_text(heap, file) {
         Ok(text) => Ok(Report::Plan(text)),
         Err(NoPlan::Refused(fault)) => Ok(Report::Refusal(refusal_text(heap, fault)?)),
-        Err(NoPlan::OutOfMemory) => Err(AllocError),
+        Err(NoPlan::OutOfMemory(want)) => Err(want),
     }
 }

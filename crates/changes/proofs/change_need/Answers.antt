@@ -1,6 +1,6 @@
 use Rattle.board.specs.Meaning.{Meaning, SameOrder, with_need}
-use Rattle.board.proofs.Going.{went_on}
-use Rattle.changes.proofs.Taking.{need-taken, need-goes, order-on}
+use Rattle.board.proofs.Going.{went_on, order-on}
+use Rattle.changes.proofs.Taking.{need-taken, need-goes}
 use Rattle.changes.proofs.change_need.Goals as goal
 
 pub returns-clause-went : goal.returns-clause-went

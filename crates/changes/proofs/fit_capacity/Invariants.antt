@@ -1,10 +1,8 @@
-use Rattle.board.specs.Meaning.{SameOrder}
-use Rattle.board.specs.Boards.{Went}
+use Rattle.board.specs.Boards.{Rearranged}
 use Rattle.changes.proofs.Fitting.{Fitting}
 use Rattle.changes.proofs.fit_capacity.Given as goal
 
 abbrev pub invariant-loop-task : goal.invariant-loop-task
 invariant-loop-task g l =
     let b = g.B.Board in
-    Went b.build l.initial.board l.board × SameOrder (b.build.meaning l.initial.board) (b.build.meaning l.board)
-    × Fitting (b.build.meaning l.board) l.core l.capacity l.over l.task
+    Rearranged b.build l.initial.board l.board × Fitting (b.build.meaning l.board) l.core l.capacity l.over l.task

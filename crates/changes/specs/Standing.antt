@@ -2,7 +2,7 @@
 use Rattle.std.specs.Prelude.{◌≡◌, Result}
 use Rattle.fairness.specs.Laws.{Comparison}
 use Rattle.board.specs.declared.fault.Fault.{Fault}
-use Rattle.board.specs.Meaning.{Meaning, SameOrder}
+use Rattle.board.specs.Meaning.{SameOrder}
 use Rattle.board.specs.Outcomes.{Outcome, answered, after}
 use Rattle.board.specs.Boards.{Build, Good, UnlessDone}
 use Rattle.levelling.specs.Levelled.{FairestOn}

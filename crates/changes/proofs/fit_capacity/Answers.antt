@@ -1,7 +1,7 @@
-use Rattle.std.proofs.Common.{◌≡◌, ◌-◌, ◌<◌, refl, ap, ◌∙◌, arith}
+use Rattle.std.proofs.Common.{◌≡◌, ◌<◌, ap, arith}
 use Rattle.board.specs.Meaning.{Meaning}
-use Rattle.board.proofs.Going.{went-nowhere, went_on}
-use Rattle.changes.proofs.Fitting.{fitting-start, fitting-more, fitting-end, order-held}
+use Rattle.board.proofs.Going.{went_on}
+use Rattle.changes.proofs.Fitting.{fitting-more, fitting-end, order-held}
 use Rattle.changes.proofs.fit_capacity.Goals as goal
 
 pub loop-task-preserved : goal.loop-task-preserved

@@ -2,7 +2,7 @@ use Rattle.std.proofs.Common.{sym, ◌∙◌}
 use Rattle.board.specs.Meaning.{Meaning, with_capacity}
 use Rattle.changes.specs.Changes.{plan_capacity}
 use Rattle.changes.proofs.Taking.{capacity-taken}
-use Rattle.changes.proofs.Replanning.{capacity-same, capacity-moves, plan-stays, plan-rests, plan-moves}
+use Rattle.changes.proofs.Replanning.{capacity-same, plan-rests}
 use Rattle.changes.proofs.set_capacity.Goals as goal
 
 pub returns-else-capacity : goal.returns-else-capacity

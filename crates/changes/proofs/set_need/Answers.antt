@@ -2,7 +2,7 @@ use Rattle.std.proofs.Common.{sym, ◌∙◌}
 use Rattle.board.specs.Meaning.{Meaning, with_need}
 use Rattle.changes.specs.Changes.{plan_need}
 use Rattle.changes.proofs.Taking.{need-taken}
-use Rattle.changes.proofs.Replanning.{need-same, need-moves, plan-stays, plan-rests, plan-moves}
+use Rattle.changes.proofs.Replanning.{need-same, plan-rests}
 use Rattle.changes.proofs.set_need.Goals as goal
 
 pub returns-else-need : goal.returns-else-need

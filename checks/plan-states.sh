@@ -33,11 +33,11 @@ must_compile() { # PROGRAM
     echo "plan states: $1: compiles"
 }
 
-must_be_refused() { # PROGRAM METHOD TYPE
+must_be_refused() { # PROGRAM METHOD STATE
     ! compile "$1" || fail "$1" "compiles, and should not"
     [ "$(grep -c 'error\[' "$scratch/$1.said")" = 1 ] || fail "$1" "is refused for more than one reason"
-    grep -q "error\[unknown-method\].*\`$2\`.*\`$3<" "$scratch/$1.said" || fail "$1" "is refused for another reason than that a $3 has no $2"
-    echo "plan states: $1: refused, since a $3 has no $2"
+    grep -q "error\[unknown-method\].*\`$2\`.*is called on \`Plan<[^\`]*, $3>\`" "$scratch/$1.said" || fail "$1" "is refused for another reason than that a ${3}Plan has no $2"
+    echo "plan states: $1: refused, since a ${3}Plan has no $2"
 }
 
 add_program need_after_reopen <<'END'
@@ -77,6 +77,6 @@ END
 grep -v 'plan.release()' "$scratch/crates/write_after_release/src/main.rt" | add_program write_from_working
 
 must_compile need_after_reopen
-must_be_refused need_on_released set_need ReleasedPlan
+must_be_refused need_on_released set_need Released
 must_compile write_after_release
-must_be_refused write_from_working write WorkingPlan
+must_be_refused write_from_working write Working

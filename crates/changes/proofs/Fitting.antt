@@ -1,5 +1,5 @@
 -- Slots that no longer fit are taken away, task by task.
-use Rattle.std.proofs.Common.{◌≡◌, ℕ, ◌+◌, ◌-◌, ◌<◌, ◌≤◌, sym, refl, ap, ◌∙◌, subst, inl, inr, arith}
+use Rattle.std.proofs.Common.{◌≡◌, ℕ, ◌+◌, ◌-◌, ◌<◌, ◌≤◌, sym, ap, ◌∙◌, subst, inl, inr, arith}
 use Rattle.std.proofs.lemmas.Bool.{cases_lt, cases_eq}
 use Rattle.fairness.proofs.Sums.{sum-eq, sum-zero}
 use Rattle.board.specs.Meaning.{Meaning, Sound, SameOrder, with_held, given_at}
@@ -11,13 +11,6 @@ pub record Fitting (m : Meaning) (core capacity over task : ℕ) : Type 0 where
   pub within : given_at m core ≤ capacity + over
   pub exact : 0 < over → given_at m core ≡ capacity + over
   pub emptied : (t : ℕ) → t < task → 0 < over → m.held t core ≡ 0
-
-pub fitting-start : (m : Meaning) (core capacity over : ℕ) → over ≡ given_at m core - capacity → Fitting m core capacity over 0
-fitting-start m core capacity over e = record {
-  within = omega (arith, e);
-  exact = λ some. omega (arith, e);
-  emptied = λ t l. absurd (omega arith);
-}
 
 pub fitting-more : (m b : Meaning) (core capacity over task held left : ℕ) → Sound m → task < m.tasks → core < m.cores → held ≡ m.held task core → left ≡ held - over
     → b ≡ after m (set_held m task core left) → Fitting m core capacity over task → Fitting b core capacity (over - (held - left)) (task + 1)
@@ -39,9 +32,6 @@ fitting-end m core capacity over task all f = elim (cases_lt 0 over) [
   | inl some ↦ omega (arith, f.exact some, sum-zero m.tasks, sum-eq m.tasks (λ t. m.held t core) (λ _. 0) (λ t l. f.emptied t (omega arith) some))
   | inr none ↦ omega (arith, f.within)
 ]
-
-pub same_order : (m : Meaning) → SameOrder m m
-same_order m = refl
 
 -- slots that fall leave the order as it is
 pub order-held : (old m b : Meaning) (task core amount : ℕ) → Sound m → task < m.tasks → core < m.cores → amount ≤ m.held task core → b ≡ after m (set_held m task core amount) → SameOrder old m → SameOrder old b

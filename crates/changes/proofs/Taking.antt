@@ -3,9 +3,9 @@ use Rattle.std.proofs.Common.{◌≡◌, ℕ, ◌<◌, ◌≤◌, min, false, �
 use Rattle.std.proofs.lemmas.Bool.Decides.{nat_tests}
 use Rattle.std.proofs.lemmas.Bool.{cond_both, ltb-false}
 use Rattle.board.specs.declared.fault.Fault.{Fault}
-use Rattle.board.specs.Meaning.{Meaning, SameOrder, planned, given_at, pair_count, with_need, with_held, with_capacity}
-use Rattle.board.specs.Outcomes.{Outcome, done, answered, after, set_need, set_capacity}
-use Rattle.board.proofs.Changes.{done-need, done-capacity, put-here, on-board-left, on-board-right}
+use Rattle.board.specs.Meaning.{Meaning, SameOrder, planned, pair_count, with_need, with_held, with_capacity}
+use Rattle.board.specs.Outcomes.{Outcome, done, answered, after, set_need}
+use Rattle.board.proofs.Changes.{done-need, put-here, on-board-left, on-board-right}
 use Rattle.changes.specs.Changes.{plan_need, plan_capacity}
 
 -- what is known of a need, or of a capacity, that a plan takes
@@ -60,14 +60,3 @@ need-goes m fit b task core amount t fe be =
     let w : b ≡ with_need s task core amount = be ∙ (ap (λ (z : Meaning). after z (set_need z task core amount)) fe ∙ ap (after s) e) in
     let P : Meaning → Type 0 = λ z. SameOrder (with_need m task core amount) z in
     subst P (sym w) refl
-
--- once the slots fit, the board takes the capacity
-pub capacity-goes : (m fit b : Meaning) (core amount : ℕ) → CapacityTaken m core amount (plan_capacity m core amount)
-    → SameOrder m fit → given_at fit core ≤ amount → b ≡ after fit (set_capacity fit core amount) → SameOrder (with_capacity m core amount) b
-capacity-goes m fit b core amount t fe fits be =
-    let s : Meaning = planned m fit.held in
-    let P : Meaning → Type 0 = λ z. given_at z core ≤ amount in
-    let e = done-capacity s core amount t.on_cores t.small (subst P fe fits) in
-    let w : b ≡ with_capacity s core amount = be ∙ (ap (λ (z : Meaning). after z (set_capacity z core amount)) fe ∙ ap (after s) e) in
-    let Q : Meaning → Type 0 = λ z. SameOrder (with_capacity m core amount) z in
-    subst Q (sym w) refl

@@ -9,8 +9,8 @@ ghost use Rattle.levelling.specs.Levelled.{FairestOn};
 ghost use Rattle.changes.specs.Changes.{plan_need, plan_capacity};
 ghost use Rattle.changes.specs.Standing.{Standing, Replanned};
 
+use board::Board;
 use board::fault::{Fault, Refusal};
-use board::{Board, MOST_SLOTS};
 use rules::Rule;
 use table_levelling::level_on_table;
 

@@ -1,5 +1,5 @@
 -- What a board says, and the condition that every board keeps.
-use Rattle.std.specs.Prelude.{◌≡◌, ℕ, ◌-◌, ◌<◌, ◌≤◌, Bool, cond, ◌&&◌, ◌==◌, nat_le, nat_lt}
+use Rattle.std.specs.Prelude.{◌≡◌, ℕ, ◌-◌, ◌<◌, ◌≤◌, Bool, cond, not, ◌&&◌, ◌==◌, nat_le, nat_lt}
 use Rattle.fairness.specs.Sums.{sum_to}
 use Rattle.fairness.specs.Plans.{Plan, given, total}
 
@@ -50,6 +50,10 @@ needed need = cond (nat_lt 0 need) 1 0
 -- how many pairs have a need
 abbrev pub pair_count : Meaning → ℕ
 pair_count m = sum_to m.tasks (λ task. sum_to m.cores (λ core. needed (m.need task core)))
+
+-- whether the pair can have a need: it has one already, or one more pair may have one
+abbrev pub has_place : Meaning → ℕ → ℕ → Bool
+has_place m task core = not (m.need task core == 0 && nat_le m.greatest_pairs (pair_count m))
 
 -- the plan with one number changed
 abbrev pub put : Plan → ℕ → ℕ → ℕ → Plan

@@ -1,8 +1,8 @@
 // The seam between planning and memory: what every board answers, which changes it takes, and which it refuses.
 #![tactic(auto)]
 
-ghost use Rattle.std.specs.Prelude.{◌≡◌, ◌<◌, nat_le};
-ghost use Rattle.board.specs.Meaning.{given_at, free_at, free_slots, total_of, whole_need_of, pair_count, sizes_allowed};
+ghost use Rattle.std.specs.Prelude.{◌≡◌};
+ghost use Rattle.board.specs.Meaning.{given_at, free_at, free_slots, total_of, whole_need_of, pair_count, has_place, sizes_allowed};
 ghost use Rattle.board.specs.Outcomes.{answered, set_need, set_held, set_capacity};
 ghost use Rattle.board.specs.Boards.{Build, Good, Changed, Cleared};
 
@@ -144,15 +144,12 @@ pub trait Board {
         count
     }
 
-    // Whether no pair is left for one of the board that has no need yet.
-    fn no_pair_left(&self, task: usize, core: usize) -> bool
-        requires good { Good build self.now }
-        requires on_tasks { task < (build.meaning self.now).tasks }
-        requires on_cores { core < (build.meaning self.now).cores }
-        requires none { (build.meaning self.now).need task core ≡ 0 }
-        ensures { result ≡ nat_le (build.meaning self.now).greatest_pairs (pair_count (build.meaning self.now)) }
+    // Whether the pair can have a need.
+    fn has_place(&self, task: usize, core: usize) -> bool
+        requires { Good build self.now }
+        ensures { result ≡ has_place (build.meaning self.now) task core }
     {
-        self.pair_count() >= self.greatest_pairs()
+        self.need(task, core) > 0 || self.pair_count() < self.greatest_pairs()
     }
 
     // What `set_need` would answer; the board stays as it is. The tests and their order are the same for every board.
@@ -169,7 +166,7 @@ pub trait Board {
         if need < self.held(task, core) {
             return Err(Refusal::SlotsOverNeed.at(0));
         }
-        if need > 0 && self.need(task, core) == 0 && self.no_pair_left(task, core) {
+        if need > 0 && !self.has_place(task, core) {
             return Err(Refusal::NoPairLeft.at(0));
         }
         Ok(())

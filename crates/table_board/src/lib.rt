@@ -146,8 +146,8 @@ impl<'a> Board for TableBoard<'a> {
     }
 
     // Every pair has its place in the table, so there is no need to count them.
-    fn no_pair_left(&self, _task: usize, _core: usize) -> bool {
-        false
+    fn has_place(&self, task: usize, core: usize) -> bool {
+        task < self.tasks && core < self.cores || self.pair_count() < self.greatest_pairs()
     }
 
     fn set_need(&mut self, task: usize, core: usize, need: u16) -> Result<(), Fault> {

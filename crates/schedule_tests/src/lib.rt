@@ -25,8 +25,9 @@ pub fn fill<B: Board>(board: &mut B, capacities: [u16; 2], needs: &[[u16; 2]])
     }
 }
 
-// Each task holds the slot of one core and needs that of the next; the last holds three.
-pub fn chain<B: Board>(board: &mut B)
+// Each task holds the slot of one core and needs that of the next; the first holds none, and the last holds `last` at the
+// last core. Where that is 2, only the route over all cores makes the plan fairer.
+pub fn chain<B: Board>(board: &mut B, last: u16)
     requires { Good B.build board.old }
     ensures { Good B.build board.new }
 {
@@ -36,26 +37,9 @@ pub fn chain<B: Board>(board: &mut B)
         let _ = board.set_need(core + 1, core, 1);
         let _ = board.set_held(core + 1, core, 1);
     }
-    let _ = board.set_capacity(15, 3);
-    let _ = board.set_need(16, 15, 3);
-    let _ = board.set_held(16, 15, 3);
-}
-
-// Each task holds the slot of one core and needs that of the next; the first holds none, and the last holds two.
-// Only the route over all cores makes the plan fairer.
-pub fn chain_of_ones<B: Board>(board: &mut B)
-    requires { Good B.build board.old }
-    ensures { Good B.build board.new }
-{
-    for core in 0..16 {
-        let _ = board.set_capacity(core, 1);
-        let _ = board.set_need(core, core, 1);
-        let _ = board.set_need(core + 1, core, 1);
-        let _ = board.set_held(core + 1, core, 1);
-    }
-    let _ = board.set_capacity(15, 2);
-    let _ = board.set_need(16, 15, 2);
-    let _ = board.set_held(16, 15, 2);
+    let _ = board.set_capacity(15, last);
+    let _ = board.set_need(16, 15, last);
+    let _ = board.set_held(16, 15, last);
 }
 
 // The totals of the first four tasks on the plan that is made, and the free slots.

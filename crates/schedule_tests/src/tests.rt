@@ -101,7 +101,7 @@ fn the_judge_shows_a_free_slot(rt: HostRuntime) -> Result<(), Fail> {
 fn a_route_over_all_cores(rt: HostRuntime) -> Result<(), Fail> {
     let mut numbers = [0; 560];
     let mut board = TableBoard::make(17, 16, &mut numbers);
-    chain(&mut board);
+    chain(&mut board, 3);
     let mut route = [Step { task: 99, core: 99 }; 16];
     let Ok(Verdict::Route { steps, loser }) = judge(&board, Even, &mut route) else {
         return Err(Fail::new("no route"));
@@ -117,7 +117,7 @@ fn a_route_over_all_cores(rt: HostRuntime) -> Result<(), Fail> {
 fn the_only_route_is_over_all_cores(rt: HostRuntime) -> Result<(), Fail> {
     let mut numbers = [0; 560];
     let mut board = TableBoard::make(17, 16, &mut numbers);
-    chain_of_ones(&mut board);
+    chain(&mut board, 2);
     let mut route = [Step { task: 99, core: 99 }; 16];
     let Ok(Verdict::Route { steps, loser }) = judge(&board, Even, &mut route) else {
         return Err(Fail::new("no route"));

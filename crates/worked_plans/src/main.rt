@@ -12,7 +12,7 @@ use pair_board::entry::BLANK;
 use plan::states::WorkingPlan;
 use routes::Step;
 use rules::{ByNeed, Even, Rule, Weighted};
-use schedule_tests::{chain_of_ones, fill, hold};
+use schedule_tests::{chain, fill, hold};
 use std::io;
 use table_board::TableBoard;
 
@@ -266,8 +266,8 @@ fn show_chain(rt: &HostRuntime) -> io::Result<()> {
     let mut entries = [BLANK; 32];
     let mut table = TableBoard::make(17, 16, &mut numbers);
     let mut pairs = PairBoard::make(17, 16, &mut entries);
-    chain_of_ones(&mut table);
-    chain_of_ones(&mut pairs);
+    chain(&mut table, 2);
+    chain(&mut pairs, 2);
     println!(rt; "a chain of 16 cores, on a table board")?;
     print_board(rt, &table, Even, true)?;
     print_made(rt, &mut table, Even)?;

@@ -68,6 +68,7 @@ impl<'a> TableBoard<'a> {
     }
 }
 
+// Places are numbers and no Options, since a set call has tested the pair before it asks for one.
 impl TableBoard<'_> {
     // Where a pair's need stands.
     fn need_place(&self, task: usize, core: usize) -> usize

@@ -3,7 +3,7 @@
 
 ghost use Rattle.std.specs.Prelude.{◌≡◌, ◌≤◌, ◌+◌, true, ◌++◌, length, sum, IfOk, OnOk, string_bytes};
 ghost use Rattle.board.specs.Meaning.{most_tasks};
-ghost use Rattle.tasks.specs.Rows.{printable_name};
+ghost use Rattle.tasks.specs.Names.{printable_name};
 ghost use Rattle.tasks.specs.Table.{rows};
 ghost use Rattle.summary.specs.Lines.{tenths as tenths_of, percent, task_line, free_line, report_lines, refusal_line};
 

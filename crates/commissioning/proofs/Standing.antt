@@ -1,7 +1,6 @@
 -- A plan stands after every line of a script.
 use Rattle.std.proofs.Common.{Bool, true, false, Result, sym, subst}
 use Rattle.fairness.specs.Laws.{Comparison}
-use Rattle.board.specs.Meaning.{Meaning}
 use Rattle.board.specs.Boards.{Build}
 use Rattle.calls.specs.declared.Call.{Call}
 use Rattle.calls.specs.Turns.{in_turn}

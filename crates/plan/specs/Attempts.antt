@@ -2,7 +2,6 @@
 use Rattle.std.specs.Prelude.{◌≡◌, Bool, true, false, Ok, Err, Result}
 use Rattle.fairness.specs.Laws.{Comparison}
 use Rattle.board.specs.declared.fault.Fault.{Fault}
-use Rattle.board.specs.Meaning.{Meaning}
 use Rattle.board.specs.Outcomes.{answered}
 use Rattle.board.specs.Boards.{Build}
 use Rattle.calls.specs.declared.Call.{Call}

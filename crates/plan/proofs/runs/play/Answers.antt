@@ -1,13 +1,12 @@
-use Rattle.std.proofs.Common.{◌≡◌, ℕ, ◌<◌, Bool, true, length, sym, refl, ap, ◌∙◌, subst, arith, rules}
+use Rattle.std.proofs.Common.{◌≡◌, ℕ, ◌<◌, length, sym, refl, ap, ◌∙◌, subst, arith, rules}
 use Rattle.std.proofs.lemmas.List.Sums.{fold_more}
-use Rattle.board.specs.Boards.{Went}
 use Rattle.levelling.specs.Levelled.{FairestOn}
 use Rattle.calls.specs.declared.Call.TheVariants.{SetNeed}
 use Rattle.calls.specs.declared.Phase.{Phase}
 use Rattle.calls.specs.declared.Phase.TheVariants.{Working}
 use Rattle.changes.specs.Standing.{Standing}
 use Rattle.calls.specs.Turns.{call_at, phase_after}
-use Rattle.plan.specs.Runs.{RanTo, NotesPast}
+use Rattle.plan.specs.Runs.{RanTo}
 use Rattle.plan.specs.States.{lent_of}
 use Rattle.plan.proofs.Playing.{ran-none, ran-more, ran-since, notes-more}
 use Rattle.plan.proofs.runs.play.Goals as goal

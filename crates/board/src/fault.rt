@@ -76,6 +76,7 @@ pub struct Fault {
     pub place: usize,
 }
 
+// A fault is told by numbers, in the report and to C: they are those of the table of refusals.
 impl Fault {
     pub fn number(self) -> u8
         ensures { result ≡ number_of self.refusal }

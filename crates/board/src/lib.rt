@@ -72,7 +72,8 @@ pub trait Board {
         requires { Good build self.old }
         ensures { Cleared build self.old self.new };
 
-    // The slots that all tasks hold of a core. Every sum here is taken from the board: none is kept beside it.
+    // The slots that all tasks hold of a core. Every sum here is taken from the board: none is kept beside it. Each has its own
+    // loop, since of a sum over a question that is passed in the bound is not proved.
     fn given(&self, core: usize) -> u32
         requires { Good build self.now }
         ensures { result ≡ given_at (build.meaning self.now) core }

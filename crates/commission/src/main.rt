@@ -1,7 +1,9 @@
 // Follows a script of calls on the plan of an order file: prints what each line is told and where the plan then stands.
 #![tactic(auto)]
 
+ghost use Rattle.std.specs.Prelude.{IfOk};
 ghost use Rattle.board.specs.Boards.{Good};
+ghost use Rattle.pair_board.specs.Pairs.{pair_build};
 ghost use Rattle.changes.specs.Standing.{Standing};
 ghost use Rattle.plan.specs.States.{lent_of, rule_of};
 
@@ -12,7 +14,7 @@ use commissioning::{Done, NotDone, Stand, Tally, follow, look};
 use judge::{Verdict, judge};
 use letters::rule_of;
 use orderfile::{read, sizes};
-use pair_board::entry::BLANK;
+use pair_board::entry::{BLANK, Entry};
 use pair_board::{MOST_ENTRIES, PairBoard};
 use plan::runs::{NotTaken, State};
 use plan::states::WorkingPlan;
@@ -154,9 +156,18 @@ fn play<B: Board, R: Rule>(rt: &HostRuntime, board: &mut B, rule: R, script: &st
     print_tally(rt, tally, phase)
 }
 
-fn refuse(rt: &HostRuntime, fault: Fault) -> io::Result<()> {
-    println!(rt; "{fault}")?;
-    Err(io::ErrorKind::InvalidData.into())
+// The letter of the file's order, and the order on a board of its own; its tasks are put into the table.
+fn read_order<'a>(
+    file: &[u8],
+    entries: &'a mut [Entry; MOST_ENTRIES],
+    tasks: &mut TaskTable,
+) -> Result<(u8, PairBoard<'a>), Fault>
+    ensures { IfOk result (λ order. Good pair_build order.1) }
+{
+    let (_, n, m) = sizes(file)?;
+    let mut board = PairBoard::make(n as usize, m as usize, entries);
+    let letter = read(file, &mut board, tasks)?;
+    Ok((letter, board))
 }
 
 // The first argument names the order file; the script comes from standard input.
@@ -166,15 +177,15 @@ fn main(rt: HostRuntime) -> io::Result<()> {
     };
     let file = fs::read(&rt, path.as_str())?;
     let script = io::read_to_string(rt.alloc(), rt.stdin())?;
-    let (n, m) = match sizes(file.as_slice()) {
-        Ok((_, n, m)) => (n as usize, m as usize),
-        Err(fault) => return refuse(&rt, fault),
-    };
     let mut entries = [BLANK; MOST_ENTRIES];
-    let mut board = PairBoard::make(n, m, &mut entries);
     let mut tasks = TaskTable::new();
-    match read(file.as_slice(), &mut board, &mut tasks) {
-        Ok(letter) => play(&rt, &mut board, rule_of(letter, &tasks), script.as_str()),
-        Err(fault) => refuse(&rt, fault),
+    match read_order(file.as_slice(), &mut entries, &mut tasks) {
+        Ok((letter, mut board)) => {
+            play(&rt, &mut board, rule_of(letter, &tasks), script.as_str())
+        }
+        Err(fault) => {
+            println!(rt; "{fault}")?;
+            Err(io::ErrorKind::InvalidData.into())
+        }
     }
 }

@@ -3,7 +3,7 @@
 
 ghost use Rattle.std.specs.Prelude.{◌≡◌, ◌*◌, ◌≤◌};
 ghost use Rattle.std.specs.Ordering.{nat_cmp};
-ghost use Rattle.fairness.specs.Laws.{Comparison, Lawful};
+ghost use Rattle.fairness.specs.Laws.{Comparison, Lawful, most_counted};
 ghost use Rattle.fairness.specs.Even.{even, counted};
 ghost use Rattle.rules.specs.Comparisons.{weighted, by_need, weight, divisor};
 ghost use Rattle.fairness.proofs.Standings.{even-lawful};
@@ -25,11 +25,14 @@ pub trait Rule: Copy {
         ensures { result ≡ order self.now a b };
 }
 
+// The greatest amount that rules tell apart from a smaller one.
+const MOST_COUNTED: u32 = 16000;
+
 // The slots that count: no product of two such numbers leaves 32 bits.
 fn count(slots: u32) -> u32
     ensures { result ≡ counted slots }
 {
-    slots.min(16000)
+    slots.min(MOST_COUNTED)
 }
 
 // Every task counts alike: its level is its total.
@@ -48,7 +51,7 @@ impl Rule for Even {
 
 // Where one total over its divisor stands, seen from another: cross products tell it without a division.
 fn compare_fractions(a: Share, under_a: u32, b: Share, under_b: u32) -> Ordering
-    requires { (under_a ≤ 16000) × (under_b ≤ 16000) }
+    requires { (under_a ≤ most_counted) × (under_b ≤ most_counted) }
     ensures { result ≡ nat_cmp (counted a.total * under_b) (counted b.total * under_a) }
 {
     let left = count(a.total) * under_b;

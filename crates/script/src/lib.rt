@@ -83,7 +83,7 @@ fn cut(text: &[u8]) -> (&[u8], &[u8])
     }
 }
 
-// The number that decimal digits say, up to 65,535.
+// The number that decimal digits say, up to 65,535. By a `for`, since of `try_fold` it is not proved that it is this fold.
 fn number_of(word: &[u8]) -> Option<u16>
     ensures { result ≡ number_of word.now }
 {

@@ -98,7 +98,8 @@ impl Search {
     }
 }
 
-// The task at the place, which still needs slots of the core, opens it: each task that holds one of them is found.
+// The task at the place, which still needs slots of the core, opens it: each task that holds one of them is found. Here and
+// below tasks and cores are gone over by number, as a board is asked, and the flags with them.
 fn open_core<B: Board>(board: &B, search: &mut Search, place: usize, core: usize)
     requires good { Good B.build board.now }
     requires start { MayOpen (B.build.meaning board.now) search.old place core }

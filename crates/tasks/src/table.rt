@@ -4,7 +4,7 @@ ghost use Rattle.tasks.specs.Rows.{rows_of, sound};
 
 use crate::entries::Entries;
 
-// Only the first `count` entries are tasks: each has a weight and a name as an order may have, and no two share a name.
+// Only the first `count` entries are tasks, for the memory is fixed: each has a weight and a name as an order may have, and no two share a name.
 #[derive(Drop)]
 pub struct TaskTable {
     pub(crate) entries: Entries,

@@ -26,7 +26,8 @@ use std::alloc::Global;
 use table_board::{MOST_NUMBERS, TableBoard};
 use tasks::table::TaskTable;
 
-// The letter of the file's order, and the order on a board of its own; its tasks are put into the table.
+// The letter of the file's order, and the order on a board of its own; its tasks are put into the table. The making of a board
+// belongs to its build, and the board borrows the cells of the call: so no one function serves all builds and calls.
 fn read_order<'a>(
     file: &[u8],
     cells: &'a mut [u16; MOST_NUMBERS],

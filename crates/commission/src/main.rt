@@ -8,7 +8,7 @@ ghost use Rattle.changes.specs.Standing.{Standing};
 ghost use Rattle.plan.specs.States.{lent_of, rule_of};
 
 use board::fault::Fault;
-use board::{Board, MOST_TASKS};
+use board::{Board, MOST_CORES};
 use calls::Phase;
 use commissioning::{Done, NotDone, Stand, Tally, follow, look};
 use judge::{Verdict, judge};
@@ -17,14 +17,14 @@ use orderfile::{read, sizes};
 use pair_board::entry::{BLANK, Entry};
 use pair_board::{MOST_ENTRIES, PairBoard};
 use plan::runs::{NotTaken, State};
-use plan::states::WorkingPlan;
+use plan::states::{WorkingPlan, totals_on};
 use routes::Step;
 use rules::Rule;
 use std::{env, fs, io};
 use tasks::table::TaskTable;
 
 // Steps for the longest route.
-type Route = [Step; 16];
+type Route = [Step; MOST_CORES];
 
 fn print_told(rt: &HostRuntime, told: Result<Done, NotDone>) -> io::Result<()> {
     match told {
@@ -77,7 +77,7 @@ fn print_plan<B: Board, R: Rule>(
 ) -> io::Result<()>
     requires { Standing B.build (R.order (rule_of state.now)) (lent_of state.now).now }
 {
-    let mut route = [Step { task: 0, core: 0 }; 16];
+    let mut route = [Step { task: 0, core: 0 }; MOST_CORES];
     let stand = look(state, &mut route);
     print_stand(rt, stand, &route, tasks)
 }
@@ -115,13 +115,9 @@ fn print_tally(rt: &HostRuntime, tally: Tally, phase: Phase) -> io::Result<()> {
 fn print_board<B: Board, R: Rule>(rt: &HostRuntime, board: &B, rule: R) -> io::Result<()>
     requires { Good B.build board.now }
 {
-    let mut route = [Step { task: 0, core: 0 }; 16];
-    let mut totals = [0; MOST_TASKS];
-    for (task, total) in totals.iter_mut().enumerate() {
-        *total = board.total(task);
-    }
+    let mut route = [Step { task: 0, core: 0 }; MOST_CORES];
     let stand = Stand {
-        totals,
+        totals: totals_on(board),
         free: board.free_slots(),
         verdict: judge(board, rule, &mut route),
     };
@@ -156,7 +152,8 @@ fn play<B: Board, R: Rule>(rt: &HostRuntime, board: &mut B, rule: R, script: &st
     print_tally(rt, tally, phase)
 }
 
-// The letter of the file's order, and the order on a board of its own; its tasks are put into the table.
+// The letter of the file's order, and the order on a board of its own, which borrows the entries; its tasks are put into the
+// table. The making of a board belongs to its build, so no one function serves all builds.
 fn read_order<'a>(
     file: &[u8],
     entries: &'a mut [Entry; MOST_ENTRIES],

@@ -25,7 +25,7 @@ pub fn told<T>(answer: Result<T, Fault>) -> Result<T, (u8, usize)> {
 }
 
 // Reads the file onto a new board of 2 tasks and 2 cores with room for 3 pairs.
-pub fn told_of(file: &[u8]) -> Result<u8, (u8, usize)> {
+fn told_of(file: &[u8]) -> Result<u8, (u8, usize)> {
     let mut entries = [BLANK; 3];
     let mut board = PairBoard::make(2, 2, &mut entries);
     let mut tasks = TaskTable::new();
@@ -34,14 +34,14 @@ pub fn told_of(file: &[u8]) -> Result<u8, (u8, usize)> {
 
 // The sample with one byte changed, and what it is told.
 #[derive(Clone, Copy)]
-pub struct Change {
-    pub at: usize,
-    pub byte: u8,
-    pub told: Result<u8, (u8, usize)>,
+struct Change {
+    at: usize,
+    byte: u8,
+    told: Result<u8, (u8, usize)>,
 }
 
 impl Change {
-    pub fn file(self) -> [u8; 69] {
+    fn file(self) -> [u8; 69] {
         let mut file = SAMPLE;
         if self.at < file.len() {
             file[self.at] = self.byte;
@@ -51,7 +51,7 @@ impl Change {
 }
 
 // One byte is changed, and the file is accepted with this letter.
-pub const fn accepted(at: usize, byte: u8, letter: u8) -> Change {
+const fn accepted(at: usize, byte: u8, letter: u8) -> Change {
     Change {
         at,
         byte,
@@ -60,7 +60,7 @@ pub const fn accepted(at: usize, byte: u8, letter: u8) -> Change {
 }
 
 // One byte is changed, and the file is refused with this number at this place.
-pub const fn refused(at: usize, byte: u8, number: u8, place: usize) -> Change {
+const fn refused(at: usize, byte: u8, number: u8, place: usize) -> Change {
     Change {
         at,
         byte,
@@ -69,7 +69,7 @@ pub const fn refused(at: usize, byte: u8, number: u8, place: usize) -> Change {
 }
 
 // The first change that is told something else.
-pub fn first_surprise(changes: &[Change]) -> Option<usize> {
+fn first_surprise(changes: &[Change]) -> Option<usize> {
     changes
         .iter()
         .position(|change| told_of(&change.file()) != change.told)

@@ -12,18 +12,11 @@ use search::{MOST_TOTAL, share_of};
 // Each turn gives a slot or finishes a task, so there are never more.
 const MOST_TURNS: usize = MOST_TASKS + MOST_TOTAL as usize;
 
-// What the rule sees of a task, and whether it can take no more.
-#[derive(Clone, Copy)]
-struct Claim {
-    share: Share,
-    finished: bool,
-}
-
 // What is left to give, and to whom.
 #[derive(Drop)]
 struct Filling {
-    // By task.
-    claims: [Claim; MOST_TASKS],
+    // By task: what the rule sees of it, or nothing where it can take no more.
+    claims: [Option<Share>; MOST_TASKS],
     // By core: the slots that are free.
     free: [u32; MOST_CORES],
 }
@@ -32,17 +25,9 @@ impl Filling {
     fn of<B: Board>(board: &B) -> Filling
         requires { Good B.build board.now }
     {
-        let nothing = Claim {
-            share: Share {
-                task: 0,
-                whole_need: 0,
-                total: 0,
-            },
-            finished: false,
-        };
-        let mut claims = [nothing; MOST_TASKS];
+        let mut claims = [None; MOST_TASKS];
         for (task, claim) in claims.iter_mut().enumerate().take(board.tasks()) {
-            claim.share = share_of(board, task);
+            *claim = Some(share_of(board, task));
         }
         let mut free = [0; MOST_CORES];
         for (core, slots) in free.iter_mut().enumerate().take(board.cores()) {
@@ -51,16 +36,15 @@ impl Filling {
         Filling { claims, free }
     }
 
-    // The task that stands lowest among those that are not finished.
-    fn most_urgent<R: Rule>(&self, rule: &R, tasks: usize) -> Option<usize>
+    // The task that stands lowest among those that can take more.
+    fn most_urgent<R: Rule>(&self, rule: &R) -> Option<usize>
         ensures { IfSome result (λ task. task < most_tasks) }
     {
         self.claims
             .iter()
             .enumerate()
-            .take(tasks)
-            .filter(|(_, claim)| !claim.finished)
-            .min_by(|(_, one), (_, other)| rule.compare(one.share, other.share))
+            .filter_map(|(task, claim)| claim.map(|share| (task, share)))
+            .min_by(|(_, one), (_, other)| rule.compare(*one, *other))
             .map(|(task, _)| task)
     }
 
@@ -76,7 +60,7 @@ impl Filling {
         }
     }
 
-    // The core that has most slots free for the task.
+    // The core that has most slots free for the task: the first of equals, which the library's maximum would not give.
     fn freest<B: Board>(&self, board: &B, task: usize) -> usize
         requires { Good B.build board.now }
         ensures { result < most_cores }
@@ -99,14 +83,15 @@ impl Filling {
         let core = self.freest(board, task);
         let free = self.free_for(board, task, core);
         if free == 0 {
-            self.claims[task].finished = true;
+            self.claims[task] = None;
             return;
         }
         let part = (free / (board.tasks() as u32).max(1)).max(1);
         let taken = take_free(board, task, core, part);
         self.free[core] = free.saturating_sub(taken);
-        let share = &mut self.claims[task].share;
-        share.total = share.total.saturating_add(taken);
+        if let Some(share) = &mut self.claims[task] {
+            share.total = share.total.saturating_add(taken);
+        }
     }
 }
 
@@ -127,9 +112,8 @@ pub fn give_out<B: Board, R: Rule>(board: &mut B, rule: &R)
     ensures { Rearranged B.build board.old board.new }
 {
     let mut filling = Filling::of(board);
-    let tasks = board.tasks();
     for _ in 0..MOST_TURNS {
-        let Some(task) = filling.most_urgent(rule, tasks) else {
+        let Some(task) = filling.most_urgent(rule) else {
             break;
         };
         filling.grant(board, task);

@@ -16,7 +16,8 @@ fn set_slots<B: Board>(board: &mut B, task: usize, core: usize, held: u16)
     let _ = board.set_held(task, core, held);
 }
 
-// The amount goes from the giver to the taker; it is given up first, so that the core is never over its capacity.
+// The amount goes from the giver to the taker; it is given up first, so that the core is never over its capacity. It may not
+// fit, so less is promised than of the exchange of one slot, which says what is moved.
 fn shift_many<B: Board>(board: &mut B, taker: usize, core: usize, giver: usize, amount: u16)
     requires { Good B.build board.old }
     ensures { Rearranged B.build board.old board.new }

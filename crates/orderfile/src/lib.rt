@@ -63,7 +63,7 @@ fn read_records<B: Board>(file: &[u8], board: &mut B, tasks: &mut TaskTable) -> 
 {
     let mut records = Records::open(file)?;
     let mut reader = Reader::new(board.tasks(), board.cores());
-    // Counted by hand: the loop goes by the end record, and not by the number of records.
+    // Counted by hand, and beside the reader, which goes by sections: the loop ends by the end record, not by the number of records.
     let mut seen = 0;
     while !reader.ended() {
         let found = records.next()?;

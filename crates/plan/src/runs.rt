@@ -47,7 +47,7 @@ impl From<Fault> for NotTaken {
     }
 }
 
-// A plan in either state.
+// A plan in either state. Where it is taken apart the arms look alike, but their plans are of two types.
 pub enum State<'a, B, R> {
     Working(WorkingPlan<'a, B, R>),
     Released(ReleasedPlan<'a, B, R>),

@@ -196,7 +196,7 @@ impl<'a, B: Board, R: Rule> Plan<'a, B, R, Released> {
 }
 
 // The totals of all tasks on a board.
-fn totals_on<B: Board>(board: &B) -> [u32; MOST_TASKS]
+pub fn totals_on<B: Board>(board: &B) -> [u32; MOST_TASKS]
     requires { Good B.build board.now }
     ensures { Totals (B.build.meaning board.now) result }
 {

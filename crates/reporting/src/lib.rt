@@ -19,7 +19,7 @@ use std::alloc::{AllocError, Global};
 use summary::{refusal_text, report_text};
 use tasks::table::TaskTable;
 
-// What is printed of a file: the text of its plan, or the line of its refusal.
+// What is printed of a file: the text of its plan, or the line of its refusal. No `Result`, since a refusal is a report too.
 #[derive(Drop)]
 pub enum Report {
     Plan(String),

@@ -13,7 +13,7 @@ pub enum Request {
     Judge,
 }
 
-// What a line asks for; nothing, where it is not understood.
+// What a line asks for; nothing, where it is not understood. Word by word, since of a `match` on byte strings it is not proved.
 pub fn request_of(line: &[u8]) -> Option<Request>
     ensures { result ≡ request_of line.now }
 {
@@ -83,7 +83,8 @@ fn cut(text: &[u8]) -> (&[u8], &[u8])
     }
 }
 
-// The number that decimal digits say, up to 65,535. By a `for`, since of `try_fold` it is not proved that it is this fold.
+// The number that decimal digits say, up to 65,535. By a `for`, since of `try_fold` it is
+// not proved that it is this fold, and the library's `parse` takes a sign.
 fn number_of(word: &[u8]) -> Option<u16>
     ensures { result ≡ number_of word.now }
 {

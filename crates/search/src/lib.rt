@@ -28,7 +28,8 @@ pub struct Found {
     pub steps: usize,
 }
 
-// A task found, and the opening through which it was found. The gainer, the first of all, has none, and 0 stands there.
+// A task found, and the opening through which it was found. The gainer, the first of all, has none, and 0 stands there. Links
+// are places in the lists, since nothing here uses the heap.
 #[derive(Clone, Copy, Default, Drop)]
 struct Seen {
     task: usize,
@@ -46,10 +47,10 @@ struct Opening {
 #[derive(Drop)]
 struct Search {
     seen: ArrayVec<Seen, MOST_TASKS>,
-    // By task.
+    // By task, so that no list is searched for it.
     found: [bool; MOST_TASKS],
     openings: ArrayVec<Opening, MOST_CORES>,
-    // By core.
+    // By core, likewise.
     opened: [bool; MOST_CORES],
 }
 
@@ -183,7 +184,8 @@ fn as_urgent<R: Rule>(rule: &R, first: Share, second: Share) -> bool
 }
 
 // The place in the search of the first task found that should lose a slot to the gainer. The board and the rule stay parameters
-// here and below: what a board must be is asked at each call, so a struct of the two would leave out no clause.
+// here and below: what a board must be is asked at each call, so a struct of the two would leave out no clause. The lent list
+// and the flags of tasks that need no search are two lifetimes, and each call says what it leaves in them.
 fn search_from<B: Board, R: Rule>(
     board: &B,
     rule: &R,

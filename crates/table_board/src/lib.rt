@@ -14,6 +14,7 @@ use board::{Board, MOST_CORES, MOST_SLOTS, MOST_TASKS};
 // How many numbers the largest board takes.
 pub const MOST_NUMBERS: usize = 2 * (MOST_TASKS * MOST_CORES) + MOST_CORES;
 
+// The one slice is the layout that its lenders are told.
 #[derive(Drop)]
 pub struct TableBoard<'a> {
     tasks: usize,

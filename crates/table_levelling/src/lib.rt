@@ -13,7 +13,8 @@ use levelling::level;
 use rules::Rule;
 use table_board::{MOST_NUMBERS, TableBoard};
 
-// Gives each core of the clear board `to` the capacity that it has on `from`.
+// Gives each core of the clear board `to` the capacity that it has on `from`. Here and below `Roomy` is asked, since it is a
+// fact of two boards, and of no type.
 fn copy_capacities<A: Board, B: Board>(from: &A, to: &mut B)
     requires from { Good A.build from.now }
     requires to { Good B.build to.old }

@@ -5,7 +5,8 @@ ghost use Rattle.tasks.specs.Names.{printable_name, good_name};
 use crate::LONGEST_NAME;
 use board::fault::Refusal;
 
-// The first `used` bytes of a fixed memory, all of them visible characters, so that the name can stand in a report.
+// The first `used` bytes, all of them visible characters, so that the name can stand in a report. An array with a length, since
+// a table's entry is copied and a list of fixed capacity is not.
 #[derive(Clone, Copy, Drop)]
 pub struct Name {
     bytes: [u8; LONGEST_NAME],

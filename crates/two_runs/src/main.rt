@@ -3,6 +3,7 @@
 #![tactic(auto)]
 
 use board::fault::Fault;
+use board::{MOST_CORES, MOST_TASKS};
 use judge::Verdict;
 use pair_board::PairBoard;
 use pair_board::entry::BLANK;
@@ -102,6 +103,7 @@ fn print_notes(rt: &HostRuntime, notes: &[Note]) -> io::Result<()> {
         let [first, second, third, ..] = note.totals;
         match note.answer {
             Ok(()) => println!(rt; "taken, totals {first} {second} {third}")?,
+            // The number alone: a place is 0 here.
             Err(fault) => {
                 let number = fault.number();
                 println!(rt; "refused {number}, totals {first} {second} {third}")?
@@ -142,12 +144,12 @@ fn main(rt: HostRuntime) -> io::Result<()> {
     let mut pairs = PairBoard::make(3, 2, &mut entries);
     let blank = Note {
         answer: Ok(()),
-        totals: [0; 64],
+        totals: [0; MOST_TASKS],
     };
     let mut straight = [blank; 6];
     let mut roundabout = [blank; 12];
-    let mut first_route = [Step { task: 0, core: 0 }; 16];
-    let mut second_route = [Step { task: 0, core: 0 }; 16];
+    let mut first_route = [Step { task: 0, core: 0 }; MOST_CORES];
+    let mut second_route = [Step { task: 0, core: 0 }; MOST_CORES];
     let ends = compare_runs(
         &mut table,
         &mut pairs,

@@ -4,8 +4,8 @@
 
 ghost use Rattle.board.specs.Boards.{Good};
 
-use board::Board;
 use board::fault::Fault;
+use board::{Board, MOST_CORES, MOST_TASKS};
 use judge::{Verdict, judge};
 use pair_board::PairBoard;
 use pair_board::entry::BLANK;
@@ -19,7 +19,6 @@ use table_board::TableBoard;
 // An order of up to four tasks at two cores, and slots to be judged: rows of which each has a pair for each task.
 #[derive(Clone, Copy)]
 struct Case<'a> {
-    tasks: usize,
     capacities: [u16; 2],
     needs: &'a [[u16; 2]],
     judged: &'a [[[u16; 2]; 4]],
@@ -48,6 +47,7 @@ fn print_verdict(
             println!(rt; "to task {loser}")
         }
         Err(fault) => {
+            // The number alone: a place is 0 here.
             let number = fault.number();
             println!(rt; "refused {number}")
         }
@@ -69,7 +69,7 @@ fn print_board<B: Board, R: Rule>(
         print!(rt; " {total}")?;
     }
     print!(rt; ": ")?;
-    let mut route = [Step { task: 0, core: 0 }; 16];
+    let mut route = [Step { task: 0, core: 0 }; MOST_CORES];
     let verdict = judge(board, rule, &mut route);
     print_verdict(rt, verdict, &route, one_route)
 }
@@ -82,12 +82,12 @@ fn print_made<B: Board, R: Rule>(rt: &HostRuntime, board: &mut B, rule: R) -> io
     let plan = WorkingPlan::make(board, rule);
     let mut totals = plan.totals();
     let free = plan.free_slots();
-    let mut route = [Step { task: 0, core: 0 }; 16];
+    let mut route = [Step { task: 0, core: 0 }; MOST_CORES];
     let verdict = plan.judge(&mut route);
     plan.end();
     totals.sort_unstable();
     print!(rt; "made")?;
-    for total in totals.iter().skip(64usize.saturating_sub(tasks)) {
+    for total in totals.iter().skip(MOST_TASKS.saturating_sub(tasks)) {
         print!(rt; " {total}")?;
     }
     print!(rt; ", free {free}: ")?;
@@ -113,8 +113,8 @@ fn show_on<B: Board, R: Rule>(
 fn show<R: Rule>(rt: &HostRuntime, title: &str, rule: R, case: Case<'_>) -> io::Result<()> {
     let mut numbers = [0; 18];
     let mut entries = [BLANK; 8];
-    let mut table = TableBoard::make(case.tasks, 2, &mut numbers);
-    let mut pairs = PairBoard::make(case.tasks, 2, &mut entries);
+    let mut table = TableBoard::make(case.needs.len(), 2, &mut numbers);
+    let mut pairs = PairBoard::make(case.needs.len(), 2, &mut entries);
     println!(rt; "{title}, on a table board")?;
     show_on(rt, &mut table, rule, case)?;
     println!(rt; "{title}, on a pair board")?;
@@ -127,7 +127,6 @@ fn show_even(rt: &HostRuntime) -> io::Result<()> {
         "one core for four tasks",
         Even,
         Case {
-            tasks: 4,
             capacities: [20, 0],
             needs: &[[8, 0], [4, 0], [10, 0], [40, 0]],
             judged: &[
@@ -144,7 +143,6 @@ fn show_even(rt: &HostRuntime) -> io::Result<()> {
         "a slot stays free",
         Even,
         Case {
-            tasks: 2,
             capacities: [4, 3],
             needs: &[[3, 1], [0, 2]],
             judged: &[
@@ -161,7 +159,6 @@ fn show_even(rt: &HostRuntime) -> io::Result<()> {
         "cores make up for each other",
         Even,
         Case {
-            tasks: 2,
             capacities: [3, 3],
             needs: &[[3, 0], [3, 3]],
             judged: &[
@@ -177,7 +174,6 @@ fn show_even(rt: &HostRuntime) -> io::Result<()> {
         "either may have the second slot",
         Even,
         Case {
-            tasks: 2,
             capacities: [2, 2],
             needs: &[[1, 1], [2, 0]],
             judged: &[
@@ -195,7 +191,6 @@ fn show_more(rt: &HostRuntime) -> io::Result<()> {
         "seven slots for two",
         Even,
         Case {
-            tasks: 2,
             capacities: [7, 0],
             needs: &[[7, 0], [7, 0]],
             judged: &[[[3, 0], [4, 0], [0, 0], [0, 0]]],
@@ -207,7 +202,6 @@ fn show_more(rt: &HostRuntime) -> io::Result<()> {
         "eight slots for two",
         Even,
         Case {
-            tasks: 2,
             capacities: [8, 0],
             needs: &[[8, 0], [8, 0]],
             judged: &[[[3, 0], [5, 0], [0, 0], [0, 0]]],
@@ -219,7 +213,6 @@ fn show_more(rt: &HostRuntime) -> io::Result<()> {
         "a route over two cores",
         Even,
         Case {
-            tasks: 3,
             capacities: [2, 4],
             needs: &[[2, 0], [2, 4], [0, 4]],
             judged: &[[[1, 0], [1, 1], [0, 3], [0, 0]]],
@@ -233,7 +226,6 @@ fn show_more(rt: &HostRuntime) -> io::Result<()> {
         "weights 1 and 2",
         Weighted::new(weights),
         Case {
-            tasks: 2,
             capacities: [1, 0],
             needs: &[[1, 0], [1, 0]],
             judged: &[
@@ -248,7 +240,6 @@ fn show_more(rt: &HostRuntime) -> io::Result<()> {
         "by need",
         ByNeed,
         Case {
-            tasks: 2,
             capacities: [6, 0],
             needs: &[[4, 0], [8, 0]],
             judged: &[

@@ -139,6 +139,7 @@ fn play<B: Board, R: Rule>(board: &mut B, rule: R, calls: &[Call], notes: &mut [
     ensures rest { NotesPast (length calls.now) notes.old notes.new }
 {
     let mut state = State::Working(WorkingPlan::make(board, rule));
+    // By place, as the promise speaks of the note at the call's place; the list may be longer.
     for (place, call) in calls.iter().enumerate() {
         let (next, answer) = step(state, *call);
         let totals = next.totals();

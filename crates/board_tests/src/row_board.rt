@@ -6,6 +6,7 @@ use board::{Board, MOST_CORES, MOST_TASKS};
 
 pub const GREATEST: u16 = 400;
 
+// Needs and slots apart: a layout that neither of the other boards has.
 #[derive(Clone, Copy)]
 pub struct Row {
     capacity: u16,

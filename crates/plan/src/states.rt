@@ -105,7 +105,7 @@ impl<'a, B: Board, R: Rule, S> Plan<'a, B, R, S> {
         board
     }
 
-    // The same plan in another state.
+    // The same plan in another state. Three clauses here and for release and reopen, since whoever uses a plan cites each by itself.
     fn turn<T>(self) -> Plan<'a, B, R, T>
         ensures lent { result.board.ghost_name ≡ self.entry.board.ghost_name }
         ensures board { result.board.now ≡ self.entry.board.now }

@@ -21,7 +21,7 @@ use orderfile::{read, sizes};
 use plan::states::WorkingPlan;
 use reporting::{NoPlan, show_by_letter};
 use routes::Step;
-use rules::Rule;
+use rules::{OrderRule, Rule};
 use std::alloc::Global;
 use table_board::{MOST_NUMBERS, TableBoard};
 use tasks::table::TaskTable;
@@ -98,8 +98,12 @@ fn plan_order(file: &[u8], out: &mut [u8]) -> Result<usize, Fault>
     let mut cells = [0; MOST_NUMBERS];
     let mut tasks = TaskTable::new();
     let (letter, mut board) = read_order(file, &mut cells, &mut tasks)?;
-    let rule = rule_of(letter, &tasks);
-    write_plan(&mut board, rule, letter, &tasks, out)
+    // Each rule is levelled by its own code, which is faster than one that asks at each comparison which rule it is.
+    match rule_of(letter, &tasks) {
+        OrderRule::Even(rule) => write_plan(&mut board, rule, letter, &tasks, out),
+        OrderRule::Weighted(rule) => write_plan(&mut board, rule, letter, &tasks, out),
+        OrderRule::ByNeed(rule) => write_plan(&mut board, rule, letter, &tasks, out),
+    }
 }
 
 // Makes the fairest plan of the file's order, and writes the order with it as an order file.

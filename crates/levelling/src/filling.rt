@@ -37,12 +37,13 @@ impl Filling {
     }
 
     // The task that stands lowest among those that can take more.
-    fn most_urgent<R: Rule>(&self, rule: &R) -> Option<usize>
+    fn most_urgent<R: Rule>(&self, rule: &R, tasks: usize) -> Option<usize>
         ensures { IfSome result (λ task. task < most_tasks) }
     {
         self.claims
             .iter()
             .enumerate()
+            .take(tasks)
             .filter_map(|(task, claim)| claim.map(|share| (task, share)))
             .min_by(|(_, one), (_, other)| rule.compare(*one, *other))
             .map(|(task, _)| task)
@@ -112,8 +113,9 @@ pub fn give_out<B: Board, R: Rule>(board: &mut B, rule: &R)
     ensures { Rearranged B.build board.old board.new }
 {
     let mut filling = Filling::of(board);
+    let tasks = board.tasks();
     for _ in 0..MOST_TURNS {
-        let Some(task) = filling.most_urgent(rule) else {
+        let Some(task) = filling.most_urgent(rule, tasks) else {
             break;
         };
         filling.grant(board, task);

@@ -14,7 +14,7 @@ use orderfile::{read, sizes};
 use pair_board::entry::BLANK;
 use pair_board::{MOST_ENTRIES, PairBoard};
 use plan::states::WorkingPlan;
-use rules::Rule;
+use rules::{OrderRule, Rule};
 use std::alloc::{AllocError, Global};
 use summary::{refusal_text, report_text};
 use tasks::table::TaskTable;
@@ -78,7 +78,12 @@ pub fn show_by_letter<B: Board>(
     requires listed { length (rows tasks.now) ≡ (B.build.meaning board.old).tasks }
     ensures { IfOk result (λ text. ShownBy letter (B.build.meaning board.old) (rows tasks.now) (string_bytes text)) }
 {
-    show_plan(heap, board, rule_of(letter, tasks), tasks)
+    // Each rule is levelled by its own code, which is faster than one that asks at each comparison which rule it is.
+    match rule_of(letter, tasks) {
+        OrderRule::Even(rule) => show_plan(heap, board, rule, tasks),
+        OrderRule::Weighted(rule) => show_plan(heap, board, rule, tasks),
+        OrderRule::ByNeed(rule) => show_plan(heap, board, rule, tasks),
+    }
 }
 
 // Reads the file, makes its plan, and writes the plan's text.

@@ -9,8 +9,8 @@ ghost use Rattle.levelling.specs.Levelled.{FairestOn};
 ghost use Rattle.changes.specs.Changes.{plan_need, plan_capacity};
 ghost use Rattle.changes.specs.Standing.{Standing, Replanned};
 
-use board::Board;
 use board::fault::{Fault, Refusal};
+use board::{Board, MOST_SLOTS};
 use rules::Rule;
 use table_levelling::level_on_table;
 
@@ -49,22 +49,33 @@ pub fn set_capacity<B: Board, R: Rule>(
     Ok(())
 }
 
-// Whether a plan takes the need. Slots above it are no reason to refuse.
+// Whether a plan takes the need. Slots above it are no reason to refuse, so the board's own test, which asks for them too, would
+// cost one search more of a board that searches for its pairs.
 fn test_need<B: Board>(board: &B, task: usize, core: usize, need: u16) -> Result<(), Fault>
     requires { Good B.build board.now }
     ensures { result ≡ answered (plan_need (B.build.meaning board.now) task core need) }
 {
-    match board.test_need(task, core, need) {
-        Err(fault) if fault.refusal == Refusal::SlotsOverNeed => Ok(()),
-        told => told,
+    if task >= board.tasks() || core >= board.cores() {
+        return Err(Refusal::NoSuchTaskOrCore.at(0));
     }
+    if need > MOST_SLOTS {
+        return Err(Refusal::AmountTooLarge.at(0));
+    }
+    if need > 0 && !board.has_place(task, core) {
+        return Err(Refusal::NoPairLeft.at(0));
+    }
+    Ok(())
 }
 
-// Whether a plan takes the capacity. Slots above it are no reason to refuse.
+// Whether a plan takes the capacity. Slots above it are no reason to refuse, and the capacity that the core has is taken without
+// adding them up.
 fn test_capacity<B: Board>(board: &B, core: usize, capacity: u16) -> Result<(), Fault>
     requires { Good B.build board.now }
     ensures { result ≡ answered (plan_capacity (B.build.meaning board.now) core capacity) }
 {
+    if core < board.cores() && capacity == board.capacity(core) {
+        return Ok(());
+    }
     match board.test_capacity(core, capacity) {
         Err(fault) if fault.refusal == Refusal::CoreOverCapacity => Ok(()),
         told => told,

@@ -1,7 +1,10 @@
 -- What a core has given, added up by entries.
-use Rattle.std.proofs.Common.{◌≡◌, ℕ, ◌≤◌, cond, ◌&&◌, eqb, List, zero, suc, length, take, ◌++◌, [], ◌∷◌, ◌+◌, refl, sym, ap, ◌∙◌, add-one, arith}
+use Rattle.std.proofs.Common.{◌≡◌, ℕ, ◌<◌, ◌≤◌, true, cond, ◌&&◌, eqb, List, zero, suc, length, take, ◌++◌, [], ◌∷◌, ◌+◌, refl, sym, ap, ◌∙◌, add-one, arith}
 use Rattle.std.proofs.lemmas.Bool.Decides.{nat_tests}
 use Rattle.fairness.specs.Sums.{sum_to}
+use Rattle.std.proofs.Math.Seq.{take-length}
+use Rattle.std.proofs.lemmas.Bool.{cond-true}
+use Rattle.fairness.proofs.Dominance.{sum-longer}
 use Rattle.fairness.proofs.Sums.{sum-swap, sum-eq, sum_one}
 use Rattle.pair_board.specs.declared.entry.Entry.{Entry}
 use Rattle.board.specs.Meaning.{given_at}
@@ -41,6 +44,17 @@ slots-sum entries core (suc used) fits =
     grind (arith, filter-append, map-append, common_steps) in
     let last : slots_of (entry_at entries used ∷ []) core ≡ adds entries core used = grind (arith, nat_tests) in
     ap (λ xs. slots_of xs core) (ap (λ k. take k entries) (sym (add-one used)) ∙ one) ∙ omega (arith, apart, last, before)
+
+-- the slots of an entry of the core, and those of the entries before it, are among those of the whole list
+pub slots-room : (entries : List Entry) (core at : ℕ) → at < length entries → eqb (entry_at entries at).core core ≡ true
+    → slots_of (take at entries) core + (entry_at entries at).held ≤ slots_of entries core
+slots-room entries core at inside here =
+    let before = slots-sum entries core at (omega arith) in
+    let all = slots-sum entries core (length entries) (omega arith) in
+    let whole : slots_of (take (length entries) entries) core ≡ slots_of entries core = ap (λ xs. slots_of xs core) (take-length entries) in
+    let grows = sum-longer (suc at) (length entries) (adds entries core) (omega arith) in
+    let added : adds entries core at ≡ (entry_at entries at).held = cond-true (eqb (entry_at entries at).core core) (entry_at entries at).held 0 here in
+    omega (arith, before, all, whole, grows, added)
 
 pub given-slots : (b : PairBoard) (core : ℕ) → Good pair_build b → slots_of (take b.used b.entries.now) core ≡ given_at (pairs_of b) core
 given-slots b core good =

@@ -13,8 +13,8 @@ pub struct Entry {
 
 impl Entry {
     // Whether it is the entry of the pair.
-    pub(crate) fn is_for(self, task: usize, core: usize) -> bool
-        ensures { result ≡ is_for self task core }
+    pub(crate) fn is_for(&self, task: usize, core: usize) -> bool
+        ensures { result ≡ is_for self.now task core }
     {
         self.task as usize == task && self.core as usize == core
     }

@@ -62,11 +62,13 @@ fn slots_of(entries: &[Entry], core: usize) -> u32
     requires { slots_of entries.now core < 2 ^ 32 }
     ensures { result ≡ slots_of entries.now core }
 {
-    entries
-        .iter()
-        .filter(|entry| entry.core as usize == core)
-        .map(|entry| entry.held as u32)
-        .sum()
+    let mut slots = 0;
+    for entry in entries {
+        if entry.core as usize == core {
+            slots += entry.held as u32;
+        }
+    }
+    slots
 }
 
 impl PairBoard<'_> {
@@ -77,12 +79,11 @@ impl PairBoard<'_> {
     {
         // Where every pair has a need, and they came in order, the entry is here.
         let place = task.min(MOST_TASKS) * self.cores.min(MOST_CORES) + core.min(MOST_CORES);
-        if place < self.used && self.entries[place].is_for(task, core) {
+        let entries = &self.entries[..self.used];
+        if place < self.used && entries[place].is_for(task, core) {
             return Some(place);
         }
-        self.entries[..self.used]
-            .iter()
-            .position(|entry| entry.is_for(task, core))
+        entries.iter().position(|entry| entry.is_for(task, core))
     }
 
     // What the pair's entry says of need and slots; nothing of either where it has none.

@@ -36,17 +36,28 @@ impl Filling {
         Filling { claims, free }
     }
 
-    // The task that stands lowest among those that can take more.
+    // The task that stands lowest among those that can take more. By their numbers, since a share is not copied then.
     fn most_urgent<R: Rule>(&self, rule: &R, tasks: usize) -> Option<usize>
         ensures { IfSome result (λ task. task < most_tasks) }
     {
-        self.claims
-            .iter()
-            .enumerate()
-            .take(tasks)
-            .filter_map(|(task, claim)| claim.map(|share| (task, share)))
-            .min_by(|(_, one), (_, other)| rule.compare(*one, *other))
-            .map(|(task, _)| task)
+        let mut lowest = 0;
+        for task in 1..tasks.min(MOST_TASKS) {
+            if self.comes_before(rule, task, lowest) {
+                lowest = task;
+            }
+        }
+        self.claims[lowest].map(|_| lowest)
+    }
+
+    // Whether the task can take more, and stands below the other or the other can take no more.
+    fn comes_before<R: Rule>(&self, rule: &R, task: usize, other: usize) -> bool
+        requires { (task < most_tasks) × (other < most_tasks) }
+    {
+        match (self.claims[task], self.claims[other]) {
+            (Some(one), Some(least)) => rule.compare(one, least).is_lt(),
+            (Some(_), None) => true,
+            (None, _) => false,
+        }
     }
 
     // The slots of the core that are free for the task.

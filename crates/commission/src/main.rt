@@ -19,7 +19,7 @@ use pair_board::{MOST_ENTRIES, PairBoard};
 use plan::runs::{NotTaken, State};
 use plan::states::{WorkingPlan, totals_on};
 use routes::Step;
-use rules::Rule;
+use rules::{OrderRule, Rule};
 use std::{env, fs, io};
 use tasks::table::TaskTable;
 
@@ -178,7 +178,13 @@ fn main(rt: HostRuntime) -> io::Result<()> {
     let mut tasks = TaskTable::new();
     match read_order(file.as_slice(), &mut entries, &mut tasks) {
         Ok((letter, mut board)) => {
-            play(&rt, &mut board, rule_of(letter, &tasks), script.as_str())
+            let script = script.as_str();
+            // Each rule is levelled and judged by its own code, which is faster than one that asks at each comparison which rule it is.
+            match rule_of(letter, &tasks) {
+                OrderRule::Even(rule) => play(&rt, &mut board, rule, script),
+                OrderRule::Weighted(rule) => play(&rt, &mut board, rule, script),
+                OrderRule::ByNeed(rule) => play(&rt, &mut board, rule, script),
+            }
         }
         Err(fault) => {
             println!(rt; "{fault}")?;

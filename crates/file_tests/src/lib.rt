@@ -4,12 +4,13 @@
 #[cfg(test)]
 mod tests;
 
+use arrayvec::ArrayVec;
 use board::Board;
 use board::fault::Fault;
 use orderfile::read;
 use pair_board::PairBoard;
 use pair_board::entry::BLANK;
-use std::alloc::{AllocError, Global};
+use records::LONGEST_FILE;
 use tasks::table::TaskTable;
 
 // Two tasks on two cores of capacity 3, and three needs of 3.
@@ -25,7 +26,7 @@ pub fn told<T>(answer: Result<T, Fault>) -> Result<T, (u8, usize)> {
 }
 
 // Reads the file onto a new board of 2 tasks and 2 cores with room for 3 pairs.
-fn told_of(file: &[u8]) -> Result<u8, (u8, usize)> {
+pub fn told_of(file: &[u8]) -> Result<u8, (u8, usize)> {
     let mut entries = [BLANK; 3];
     let mut board = PairBoard::make(2, 2, &mut entries);
     let mut tasks = TaskTable::new();
@@ -34,10 +35,10 @@ fn told_of(file: &[u8]) -> Result<u8, (u8, usize)> {
 
 // The sample with one byte changed, and what it is told.
 #[derive(Clone, Copy)]
-struct Change {
-    at: usize,
-    byte: u8,
-    told: Result<u8, (u8, usize)>,
+pub struct Change {
+    pub at: usize,
+    pub byte: u8,
+    pub told: Result<u8, (u8, usize)>,
 }
 
 impl Change {
@@ -69,35 +70,48 @@ const fn refused(at: usize, byte: u8, number: u8, place: usize) -> Change {
 }
 
 // The first change that is told something else.
-fn first_surprise(changes: &[Change]) -> Option<usize> {
+pub fn first_surprise(changes: &[Change]) -> Option<usize> {
     changes
         .iter()
         .position(|change| told_of(&change.file()) != change.told)
 }
 
+// One byte more than any order has.
+const ROOM: usize = LONGEST_FILE + 1;
+
+// An order file that is put together byte by byte. It lies on no heap, so none has to be had for it.
+pub type Draft = ArrayVec<u8, ROOM>;
+
+// Adds the bytes, as far as there is room.
+fn put(file: &mut Draft, bytes: &[u8]) {
+    for byte in bytes {
+        let _ = file.try_push(*byte);
+    }
+}
+
 // A record of the kind for each pair of 64 tasks and 16 cores.
-fn put_pairs(file: &mut Vec<u8>, kind: u8, low: u8, high: u8) -> Result<(), AllocError> {
+fn put_pairs(file: &mut Draft, kind: u8, low: u8, high: u8) {
     for task in 0..64 {
         for core in 0..16 {
-            file.extend_from_slice(&[6, 0, kind, 0, task, core, low, high])?;
+            put(file, &[6, 0, kind, 0, task, core, low, high]);
         }
     }
-    Ok(())
 }
 
 // The largest order: 64 tasks with names of 12 bytes, 16 cores, and a need and slots for each pair.
-pub fn largest_file(heap: Global) -> Result<Vec<u8>, AllocError> {
-    let mut file = vec![in heap; 5, 0, 1, 0, 0x77, 64, 16]?;
+pub fn largest_file() -> Draft {
+    let mut file = Draft::new();
+    put(&mut file, &[5, 0, 1, 0, 0x77, 64, 16]);
     for core in 0..16 {
-        file.extend_from_slice(&[5, 0, 2, 0, core, 0xE8, 3])?;
+        put(&mut file, &[5, 0, 2, 0, core, 0xE8, 3]);
     }
     for task in 0..64 {
-        file.extend_from_slice(&[16, 0, 3, 0, task, 100])?;
-        file.extend_from_slice(b"task-------")?;
-        file.push(0x21 + task)?;
+        put(&mut file, &[16, 0, 3, 0, task, 100]);
+        put(&mut file, b"task-------");
+        put(&mut file, &[0x21 + task]);
     }
-    put_pairs(&mut file, 4, 0xE8, 3)?;
-    put_pairs(&mut file, 5, 15, 0)?;
-    file.extend_from_slice(&[4, 0, 6, 0, 0x51, 8])?;
-    Ok(file)
+    put_pairs(&mut file, 4, 0xE8, 3);
+    put_pairs(&mut file, 5, 15, 0);
+    put(&mut file, &[4, 0, 6, 0, 0x51, 8]);
+    file
 }

@@ -2,7 +2,6 @@
 use super::*;
 use board_tests::row_board::RowBoard;
 use orderfile::sizes;
-use std::test::Fail;
 
 #[test]
 fn a_changed_byte(rt: HostRuntime) {
@@ -163,22 +162,27 @@ fn sizes_alone(rt: HostRuntime) {
 }
 
 #[test]
-fn the_largest_order(rt: HostRuntime) -> Result<(), Fail> {
-    let mut file = largest_file(rt.alloc())?;
+fn the_largest_order(rt: HostRuntime) {
+    let mut file = largest_file();
     assert_eq!(rt; file.len(), 17661);
     let mut entries = [BLANK; 1024];
     let mut board = PairBoard::make(64, 16, &mut entries);
     let mut tasks = TaskTable::new();
-    assert_eq!(rt; told(read(&file, &mut board, &mut tasks)), Ok(0x77));
+    assert_eq!(rt;
+        told(read(file.as_slice(), &mut board, &mut tasks)),
+        Ok(0x77)
+    );
     assert_eq!(rt; board.whole_need(63), 16000);
     assert_eq!(rt; board.total(63), 240);
     assert_eq!(rt; board.free_slots(), 640);
     assert_eq!(rt; tasks.weight(63), 100);
     assert_eq!(rt; tasks.name(63).len(), 12);
-    file.push(0)?;
-    assert_eq!(rt; told(read(&file, &mut board, &mut tasks)), Err((1, 0)));
+    assert!(rt; file.try_push(0).is_ok());
+    assert_eq!(rt;
+        told(read(file.as_slice(), &mut board, &mut tasks)),
+        Err((1, 0))
+    );
     assert_eq!(rt; board.whole_need(63), 0);
-    Ok(())
 }
 
 // No needs and no slots at all.

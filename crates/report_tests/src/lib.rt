@@ -24,7 +24,7 @@ fn refuses(heap: Global, file: &[u8], line: &str) -> Result<bool, AllocError> {
 }
 
 // One core of the capacity, and two tasks, a and b, with weights and needs there.
-fn two_tasks(letter: u8, capacity: u8, weights: [u8; 2], needs: [u8; 2]) -> [u8; 50] {
+pub fn two_tasks(letter: u8, capacity: u8, weights: [u8; 2], needs: [u8; 2]) -> [u8; 50] {
     [
         5, 0, 1, 0, letter, 2, 1, 5, 0, 2, 0, 0, capacity, 0, 5, 0, 3, 0, 0, weights[0], b'a', 5,
         0, 3, 0, 1, weights[1], b'b', 6, 0, 4, 0, 0, 0, needs[0], 0, 6, 0, 4, 0, 1, 0, needs[1], 0,

@@ -94,8 +94,8 @@ fn no_needs(rt: HostRuntime) -> Result<(), Fail> {
 // 64 tasks on 16 cores of capacity 1,000: all weights are equal, so each task has 250 of the 16,000 slots.
 #[test]
 fn the_largest_order(rt: HostRuntime) -> Result<(), Fail> {
-    let file = largest_file(rt.alloc())?;
-    let Report::Plan(text) = report_of(rt.alloc(), &file)? else {
+    let file = largest_file();
+    let Report::Plan(text) = report_of(rt.alloc(), file.as_slice())? else {
         assert!(rt; false);
         return Ok(());
     };

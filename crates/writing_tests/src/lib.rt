@@ -5,7 +5,8 @@
 mod tests;
 
 use board::Board;
-use file_tests::{SAMPLE, told};
+use file_tests::SAMPLE;
+pub use file_tests::told;
 use order_writer::write;
 use orderfile::read;
 use pair_board::PairBoard;

@@ -3,7 +3,6 @@ use super::*;
 use board_tests::row_board::RowBoard;
 use file_tests::largest_file;
 use round_trips::{read_and_write, write_and_read};
-use std::test::Fail;
 use table_board::TableBoard;
 
 // The output may just fit, and what lies past the file is not touched.
@@ -47,24 +46,23 @@ fn refused_in_order(rt: HostRuntime) {
 }
 
 #[test]
-fn the_largest_order_again(rt: HostRuntime) -> Result<(), Fail> {
-    let file = largest_file(rt.alloc())?;
+fn the_largest_order_again(rt: HostRuntime) {
+    let file = largest_file();
     let mut entries = [BLANK; 1024];
     let mut board = PairBoard::make(64, 16, &mut entries);
     let mut tasks = TaskTable::new();
     let mut again = [0; 17661];
     assert_eq!(rt;
-        told(read_and_write(&file, &mut board, &mut tasks, &mut again)),
+        told(read_and_write(file.as_slice(), &mut board, &mut tasks, &mut again)),
         Ok(17661)
     );
     assert!(rt; &again[0..17661] == file.as_slice());
     let mut short = [0; 17660];
     assert_eq!(rt;
-        told(read_and_write(&file, &mut board, &mut tasks, &mut short)),
+        told(read_and_write(file.as_slice(), &mut board, &mut tasks, &mut short)),
         Err((19, 0))
     );
     assert_eq!(rt; board.free_slots(), 640);
-    Ok(())
 }
 
 // A board of another build takes an order just where it can hold it.
